@@ -12,3 +12,4 @@ pub mod Edit
 pub mod Pull
 pub mod Image
 pub mod Report
+pub mod Union
