@@ -1,3 +1,4 @@
 -- Laws of the definitions.
 pub mod OrderLaws
 pub mod MapLaws
+pub mod Examples

@@ -13,3 +13,4 @@ pub mod Pull
 pub mod Image
 pub mod Report
 pub mod Union
+pub mod Examples

@@ -1,1 +1,3 @@
-//! What the benchmark compares.
+//! The two sides of the benchmark, both as [`refile_model::Replica`].
+
+pub mod baseline;
