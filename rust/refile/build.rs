@@ -1,7 +1,7 @@
 //! Links the proved archive, `librefile.a`.
 
 use std::env;
-use std::path::PathBuf;
+use std::path::{Path, PathBuf};
 
 fn main() {
     println!("cargo::rerun-if-env-changed=REFILE_LIB_DIR");
@@ -9,7 +9,9 @@ fn main() {
         Some(folder) => PathBuf::from(folder),
         None => {
             let package = env::var_os("CARGO_MANIFEST_DIR").expect("cargo names the package");
-            PathBuf::from(package).join("../../target/staticlib")
+            let top = Path::new(&package).ancestors().nth(2);
+            top.expect("the package is at rust/refile")
+                .join("target/staticlib")
         }
     };
     let archive = folder.join("librefile.a");

@@ -46,9 +46,7 @@ fn flag(value: u32) -> bool {
 /// Splits an answer buffer into its big-endian numbers.
 fn numbers<const BYTES: usize, const COUNT: usize>(answer: [u8; BYTES]) -> [u32; COUNT] {
     const { assert!(BYTES == 4 * COUNT) };
-    std::array::from_fn(|i| {
-        u32::from_be_bytes(std::array::from_fn(|byte| answer[4 * i + byte]))
-    })
+    std::array::from_fn(|i| u32::from_be_bytes(std::array::from_fn(|byte| answer[4 * i + byte])))
 }
 
 impl Replica {
@@ -546,12 +544,7 @@ impl Replica {
     /// # Ok(())
     /// # }
     /// ```
-    pub fn missing_into(
-        &self,
-        id: &[u8],
-        asked: &[u8],
-        out: &mut [u8],
-    ) -> Result<usize, Refusal> {
+    pub fn missing_into(&self, id: &[u8], asked: &[u8], out: &mut [u8]) -> Result<usize, Refusal> {
         // SAFETY: see the module.
         let count = answer(unsafe {
             sys::refile_missing(
@@ -616,11 +609,7 @@ impl Replica {
     /// # Ok(())
     /// # }
     /// ```
-    pub fn next_change(
-        &self,
-        after: Sequence,
-        id: &mut [u8],
-    ) -> Result<Option<Change>, Refusal> {
+    pub fn next_change(&self, after: Sequence, id: &mut [u8]) -> Result<Option<Change>, Refusal> {
         let mut found = [0; 16];
         // SAFETY: see the module.
         let any = answer(unsafe {

@@ -13,12 +13,8 @@ unsafe extern "C" {
         image_len: usize,
     ) -> u64;
 
-    pub fn refile_save(
-        replica: *const u8,
-        replica_len: usize,
-        out: *mut u8,
-        out_len: usize,
-    ) -> u64;
+    pub fn refile_save(replica: *const u8, replica_len: usize, out: *mut u8, out_len: usize)
+        -> u64;
 
     pub fn refile_write(
         replica: *mut u8,
@@ -117,10 +113,5 @@ unsafe extern "C" {
         answer_len: usize,
     ) -> u64;
 
-    pub fn refile_report(
-        image: *const u8,
-        image_len: usize,
-        out: *mut u8,
-        out_len: usize,
-    ) -> u64;
+    pub fn refile_report(image: *const u8, image_len: usize, out: *mut u8, out_len: usize) -> u64;
 }
