@@ -14,3 +14,4 @@ pub mod Image
 pub mod Report
 pub mod Union
 pub mod Examples
+pub mod Outcome

@@ -1,0 +1,462 @@
+//! Scenarios: steps over three replicas, made from a seed, hostile ones among them.
+
+use crate::harness::{apply, IMAGE_MOST};
+use crate::images;
+use crate::model::{Hash, Model, Revision};
+use crate::offers::{content, some_document, Alphabet};
+use crate::random::Random;
+use crate::{Content, Replica};
+
+pub use crate::text::ParseError;
+
+pub const REPLICAS: usize = 3;
+
+/// One call on the replica `at`. A `room` is the length of the buffer that is lent to it.
+#[derive(Clone, PartialEq, Eq, Debug)]
+pub enum Step {
+    Fresh {
+        at: usize,
+    },
+    Load {
+        at: usize,
+        image: Vec<u8>,
+    },
+    Save {
+        at: usize,
+        room: usize,
+    },
+    Write {
+        at: usize,
+        id: Vec<u8>,
+        number: u32,
+        path: Vec<u8>,
+        content: Content,
+    },
+    Edit {
+        at: usize,
+        id: Vec<u8>,
+        hash: Hash,
+        content: Content,
+        parent: Option<(u32, Hash)>,
+    },
+    Winner {
+        at: usize,
+        id: Vec<u8>,
+        room: usize,
+    },
+    Leaves {
+        at: usize,
+        id: Vec<u8>,
+        room: usize,
+    },
+    Path {
+        at: usize,
+        id: Vec<u8>,
+        number: u32,
+        hash: Hash,
+        room: usize,
+    },
+    Missing {
+        at: usize,
+        id: Vec<u8>,
+        asked: Vec<u8>,
+        room: usize,
+    },
+    Changes {
+        at: usize,
+        after: u32,
+        room: usize,
+    },
+    Pull {
+        at: usize,
+        from: usize,
+        after: u32,
+    },
+    /// Saves a replica and loads what was saved.
+    Reload {
+        at: usize,
+        from: usize,
+    },
+    UpdateSequence {
+        at: usize,
+    },
+    Counts {
+        at: usize,
+    },
+    Report {
+        image: Vec<u8>,
+        room: usize,
+    },
+}
+
+/// Steps to run one after the other on three fresh replicas.
+#[derive(Clone, PartialEq, Eq, Debug, Default)]
+pub struct Scenario {
+    pub steps: Vec<Step>,
+}
+
+/// The scenario of a seed.
+pub fn scenario(seed: u64) -> Scenario {
+    let mut writer = Writer::new(seed);
+    match seed % 8 {
+        0..=3 => writer.steps(60),
+        4 => {
+            writer.hostile = 30;
+            writer.steps(60);
+        }
+        5 => {
+            writer.open_at_the_last_sequence();
+            writer.steps(50);
+        }
+        6 => {
+            writer.open_full();
+            writer.steps(30);
+        }
+        _ => {
+            writer.open_with_long_paths();
+            writer.steps(12);
+        }
+    }
+    Scenario {
+        steps: writer.steps,
+    }
+}
+
+/// Writes a scenario, and runs it on the model while it does, so that the next step can be about
+/// what the replicas hold.
+struct Writer {
+    random: Random,
+    alphabet: Alphabet,
+    /// How many steps in a hundred are spoiled.
+    hostile: usize,
+    replicas: [Model; REPLICAS],
+    steps: Vec<Step>,
+}
+
+impl Writer {
+    fn new(seed: u64) -> Self {
+        let mut random = Random::new(seed);
+        let alphabet = Alphabet::new(&mut random);
+        Writer {
+            random,
+            alphabet,
+            hostile: 3,
+            replicas: std::array::from_fn(|_| Model::fresh()),
+            steps: Vec::new(),
+        }
+    }
+
+    fn push(&mut self, step: Step) {
+        apply(&mut self.replicas, &step);
+        self.steps.push(step);
+    }
+
+    fn steps(&mut self, count: usize) {
+        for _ in 0..count {
+            let step = self.step();
+            self.push(step);
+        }
+    }
+
+    /// Replicas of small images whose sequences end.
+    fn open_at_the_last_sequence(&mut self) {
+        for at in 0..REPLICAS {
+            for _ in 0..3 {
+                let step = self.write(at);
+                self.push(step);
+            }
+            let image = images::save(&self.replicas[at]);
+            let image = images::end_sequences(&mut self.random, &image);
+            self.push(Step::Load { at, image });
+        }
+    }
+
+    /// Two replicas without room, one of them perhaps without sequences as well.
+    fn open_full(&mut self) {
+        for at in 0..2 {
+            let mut image = images::save(&images::full(&mut self.random));
+            if self.random.percent(30) {
+                image = images::end_sequences(&mut self.random, &image);
+            }
+            self.push(Step::Load { at, image });
+        }
+    }
+
+    /// Paths about the most hashes, documents about the most documents.
+    fn open_with_long_paths(&mut self) {
+        let id = self.alphabet.id(&mut self.random);
+        for count in [511, 512, 513] {
+            let path = (0..count).flat_map(|_| self.alphabet.hash(&mut self.random));
+            let path = path.collect();
+            let number = count as u32 + self.random.below(2) as u32;
+            let content = content(&mut self.random);
+            self.push(Step::Write {
+                at: count - 511,
+                id: id.clone(),
+                number,
+                path,
+                content,
+            });
+        }
+        for document in 0..33 {
+            let hash = self.alphabet.hash(&mut self.random);
+            self.push(Step::Write {
+                at: 2,
+                id: vec![document],
+                number: 1,
+                path: hash.to_vec(),
+                content: Content::Live(document.into()),
+            });
+        }
+    }
+
+    fn step(&mut self) -> Step {
+        let at = self.replica();
+        match self.random.below(100) {
+            0..=29 => self.write(at),
+            30..=46 => self.edit(at),
+            47..=57 => self.pull(at),
+            58..=62 => self.winner(at),
+            63..=68 => self.leaves(at),
+            69..=74 => self.path(at),
+            75..=80 => self.missing(at),
+            81..=86 => self.changes(at),
+            87..=89 => self.save(at),
+            90..=92 => Step::Reload {
+                at,
+                from: self.replica(),
+            },
+            93..=94 => Step::Load {
+                at,
+                image: self.image(at),
+            },
+            95..=96 => self.report(at),
+            97 => Step::UpdateSequence { at },
+            98 => Step::Counts { at },
+            _ => Step::Fresh { at },
+        }
+    }
+
+    fn replica(&mut self) -> usize {
+        self.random.below(REPLICAS)
+    }
+
+    /// An id that a replica holds, or another, or one that is refused.
+    fn id(&mut self) -> Vec<u8> {
+        let length = *self.random.pick(&[0, 33, 33, 64]);
+        if self.random.percent(self.hostile) {
+            return self.random.bytes(length);
+        }
+        if self.random.percent(50) {
+            if let Some((id, _)) = some_document(&mut self.random, &self.replicas) {
+                return id.to_vec();
+            }
+        }
+        self.alphabet.id(&mut self.random)
+    }
+
+    /// A revision of the document that a replica holds, or one that may be known to none.
+    fn revision(&mut self, id: &[u8]) -> Revision {
+        let holder = self.replica();
+        if self.random.percent(75) {
+            if let Some(document) = self.replicas[holder].held().documents.get(id) {
+                let revisions: Vec<_> = document.revisions.iter().copied().collect();
+                return *self.random.pick(&revisions);
+            }
+        }
+        let number = match self.random.below(8) {
+            0 => *self.random.pick(&[0, 1, u32::MAX]),
+            _ => self.alphabet.number(&mut self.random),
+        };
+        Revision {
+            number,
+            hash: self.alphabet.hash(&mut self.random),
+        }
+    }
+
+    /// A sequence about those that the replica gave.
+    fn sequence(&mut self, at: usize) -> u32 {
+        let held = self.replicas[at].held();
+        let mut sequences = vec![0, 0, 0, held.sequence, u32::MAX];
+        for document in held.documents.values() {
+            sequences.extend([document.sequence, document.sequence - 1]);
+        }
+        *self.random.pick(&sequences)
+    }
+
+    /// The length of a buffer for an answer of so many bytes: exact, a byte short, with bytes to
+    /// spare, or none.
+    fn room(&mut self, answer: usize) -> usize {
+        match self.random.below(10) {
+            0..=3 => answer,
+            4 | 5 => answer.saturating_sub(1),
+            6 => self.random.below(answer + 1),
+            7 => 0,
+            _ => answer + 1 + self.random.below(40),
+        }
+    }
+
+    fn write(&mut self, at: usize) -> Step {
+        let offer = self.alphabet.offer(&mut self.random, &self.replicas);
+        let mut id = offer.id;
+        let mut number = offer.number;
+        let mut path = offer.hashes.concat();
+        if self.random.percent(self.hostile) {
+            id = self.id();
+        }
+        if self.random.percent(self.hostile) {
+            let hash = self.alphabet.hash(&mut self.random);
+            match self.random.below(6) {
+                0 => path.clear(),
+                1 => path.push(0),
+                2 => drop(path.pop()),
+                3 => path = hash.repeat(512),
+                4 => path = hash.repeat(513),
+                _ => path = hash.repeat(number.min(40) as usize + 1),
+            }
+        }
+        if self.random.percent(self.hostile) {
+            let short = (path.len() as u32 / 16).saturating_sub(1);
+            number = *self.random.pick(&[0, short, u32::MAX]);
+        }
+        Step::Write {
+            at,
+            id,
+            number,
+            path,
+            content: offer.content,
+        }
+    }
+
+    fn edit(&mut self, at: usize) -> Step {
+        let id = self.id();
+        let mut hash = self.alphabet.hash(&mut self.random);
+        let mut parent = None;
+        if self.random.percent(75) {
+            let document = self.replicas[at].held().documents.get(&id);
+            let leaves = document.map(|document| document.leaves());
+            let revision = match leaves {
+                Some(leaves) if self.random.percent(70) => self.random.pick(&leaves).revision,
+                _ => self.revision(&id),
+            };
+            if self.random.percent(20) {
+                hash = revision.hash;
+            }
+            parent = Some((revision.number, revision.hash));
+        }
+        Step::Edit {
+            at,
+            id,
+            hash,
+            content: content(&mut self.random),
+            parent,
+        }
+    }
+
+    fn pull(&mut self, at: usize) -> Step {
+        let from = self.replica();
+        Step::Pull {
+            at,
+            from,
+            after: self.sequence(from),
+        }
+    }
+
+    fn winner(&mut self, at: usize) -> Step {
+        Step::Winner {
+            at,
+            id: self.id(),
+            room: self.room(29),
+        }
+    }
+
+    fn leaves(&mut self, at: usize) -> Step {
+        let id = self.id();
+        let document = self.replicas[at].held().documents.get(&id);
+        let count = document.map_or(1, |document| document.leaves().len());
+        Step::Leaves {
+            at,
+            id,
+            room: self.room(29 * count),
+        }
+    }
+
+    fn path(&mut self, at: usize) -> Step {
+        let id = self.id();
+        let revision = self.revision(&id);
+        let document = self.replicas[at].held().documents.get(&id);
+        let count = document.map_or(1, |document| document.path(revision).len());
+        Step::Path {
+            at,
+            id,
+            number: revision.number,
+            hash: revision.hash,
+            room: self.room(16 * count),
+        }
+    }
+
+    fn missing(&mut self, at: usize) -> Step {
+        let id = self.id();
+        let mut asked = Vec::new();
+        for _ in 0..self.random.below(7) {
+            let revision = self.revision(&id);
+            asked.extend(revision.number.to_be_bytes());
+            asked.extend(revision.hash);
+        }
+        let room = self.room(asked.len() / 20);
+        if self.random.percent(self.hostile) {
+            let bytes = 1 + self.random.below(19);
+            asked.extend(self.random.bytes(bytes));
+        }
+        Step::Missing {
+            at,
+            id,
+            asked,
+            room,
+        }
+    }
+
+    fn changes(&mut self, at: usize) -> Step {
+        let after = self.sequence(at);
+        let mut id = [0; 32];
+        let change = self.replicas[at].changes(after, &mut id);
+        let length = change.ok().flatten().map_or(32, |change| change.id_len);
+        Step::Changes {
+            at,
+            after,
+            room: self.room(length as usize),
+        }
+    }
+
+    fn save(&mut self, at: usize) -> Step {
+        let length = images::save(&self.replicas[at]).len();
+        Step::Save {
+            at,
+            room: self.room(length),
+        }
+    }
+
+    /// The image of a replica, or of none of them, sound or damaged.
+    fn image(&mut self, at: usize) -> Vec<u8> {
+        let image = if self.random.percent(60) {
+            images::save(&self.replicas[at])
+        } else {
+            images::sound(&mut self.random)
+        };
+        if self.random.percent(50) {
+            images::damage(&mut self.random, &image)
+        } else {
+            image
+        }
+    }
+
+    fn report(&mut self, at: usize) -> Step {
+        let image = self.image(at);
+        let mut text = vec![0; IMAGE_MOST];
+        let length = Model::report(&image, &mut text).expect("the longest report fits");
+        Step::Report {
+            image,
+            room: self.room(length as usize),
+        }
+    }
+}
