@@ -2,3 +2,4 @@
 pub mod OrderLaws
 pub mod MapLaws
 pub mod Examples
+pub mod ByteLaws
