@@ -86,10 +86,7 @@ pub fn buffer(bytes: usize) -> Vec<u8> {
 }
 
 /// Runs a call on a new buffer.
-fn lent(
-    room: usize,
-    call: impl FnOnce(&mut [u8]) -> Result<Answer, Refusal>,
-) -> Outcome {
+fn lent(room: usize, call: impl FnOnce(&mut [u8]) -> Result<Answer, Refusal>) -> Outcome {
     let mut out = buffer(room);
     let answer = call(&mut out).unwrap_or_else(Answer::Refused);
     Outcome {
@@ -160,10 +157,14 @@ pub fn apply<R: Replica>(replicas: &mut [R; REPLICAS], step: &Step) -> Outcome {
             return lent(*room, |out| replicas[*at].save(out).map(Answer::Value))
         }
         Step::Winner { at, id, room } => {
-            return lent(*room, |out| replicas[*at].winner(id, out).map(Answer::Value))
+            return lent(*room, |out| {
+                replicas[*at].winner(id, out).map(Answer::Value)
+            })
         }
         Step::Leaves { at, id, room } => {
-            return lent(*room, |out| replicas[*at].leaves(id, out).map(Answer::Value))
+            return lent(*room, |out| {
+                replicas[*at].leaves(id, out).map(Answer::Value)
+            })
         }
         Step::Path {
             at,

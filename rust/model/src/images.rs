@@ -3,7 +3,7 @@
 use crate::harness::IMAGE_MOST;
 use crate::layout::{image_bytes, Entry, Image, Row};
 use crate::model::Model;
-use crate::offers::{content, hash, Alphabet};
+use crate::offers::{content, hash, some_document, Alphabet};
 use crate::random::Random;
 use crate::scenario::{Scenario, Step};
 use crate::{Content, Replica};
@@ -64,6 +64,11 @@ fn small(random: &mut Random) -> Model {
 pub fn full(random: &mut Random) -> Model {
     let documents = *random.pick(&[1, 2, 31, 32, 32]);
     let revisions = 509 + random.below(4);
+    filled(random, documents, revisions)
+}
+
+/// A replica of so many documents and revisions.
+fn filled(random: &mut Random, documents: usize, revisions: usize) -> Model {
     let share = revisions / documents;
     let mut replica = Model::fresh();
     let mut made = 0_u16;
@@ -82,7 +87,7 @@ pub fn full(random: &mut Random) -> Model {
     }
     while replica.held().revisions() < revisions {
         let replicas = std::slice::from_ref(&replica);
-        let (id, document) = crate::offers::some_document(random, replicas).expect("there are some");
+        let (id, document) = some_document(random, replicas).expect("there are some");
         let known: Vec<_> = document.revisions.iter().copied().collect();
         let parent = *random.pick(&known);
         let path = [new_hash(), parent.hash].concat();
@@ -413,7 +418,7 @@ pub fn traps() -> Vec<(&'static str, Vec<u8>)> {
     let mut second_row_bad = written(&[(b"a", 1, &one, live), (b"b", 1, &one, live)]);
     second_row_bad.rows[1].kind = 3;
 
-    let full = save(&full(&mut Random::new(0)));
+    let full = save(&filled(&mut Random::new(0), 32, 512));
     let mut a_byte_more = full.clone();
     a_byte_more.push(0);
 

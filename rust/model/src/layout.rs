@@ -150,8 +150,12 @@ impl Image {
         }
         let mut fields = Fields(&bytes[HEAD_BYTES..]);
         Some(Image {
-            entries: (0..head.documents).map(|_| Entry::read(&mut fields)).collect(),
-            rows: (0..head.revisions).map(|_| Row::read(&mut fields)).collect(),
+            entries: (0..head.documents)
+                .map(|_| Entry::read(&mut fields))
+                .collect(),
+            rows: (0..head.revisions)
+                .map(|_| Row::read(&mut fields))
+                .collect(),
             head,
         })
     }

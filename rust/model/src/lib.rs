@@ -82,13 +82,7 @@ pub trait Replica: Clone {
     fn leaves(&self, id: &[u8], out: &mut [u8]) -> Result<u32, Refusal>;
 
     /// Answers the count of hashes.
-    fn path(
-        &self,
-        id: &[u8],
-        number: u32,
-        hash: [u8; 16],
-        out: &mut [u8],
-    ) -> Result<u32, Refusal>;
+    fn path(&self, id: &[u8], number: u32, hash: [u8; 16], out: &mut [u8]) -> Result<u32, Refusal>;
 
     /// Answers how many bytes were written.
     fn missing(&self, id: &[u8], asked: &[u8], out: &mut [u8]) -> Result<u32, Refusal>;

@@ -149,7 +149,6 @@ pub enum Base {
 // The replica
 
 /// A replica under the given rules.
-#[derive(Debug)]
 pub struct ModelOf<R> {
     held: Held,
     rules: PhantomData<R>,
@@ -174,12 +173,6 @@ impl<R> ModelOf<R> {
 impl<R> Clone for ModelOf<R> {
     fn clone(&self) -> Self {
         Self::holding(self.held.clone())
-    }
-}
-
-impl<R> PartialEq for ModelOf<R> {
-    fn eq(&self, other: &Self) -> bool {
-        self.held == other.held
     }
 }
 
@@ -229,12 +222,7 @@ impl<R: Rules> ModelOf<R> {
 
     /// "Reads of a document check 1, 12, 13 (path only), 14". The answer is there if the document
     /// is, and for a path the revision too.
-    fn read(
-        &self,
-        id: &[u8],
-        answer: Option<Vec<u8>>,
-        out: &mut [u8],
-    ) -> Result<Vec<u8>, Refusal> {
+    fn read(&self, id: &[u8], answer: Option<Vec<u8>>, out: &mut [u8]) -> Result<Vec<u8>, Refusal> {
         let refused = first_refusal(R::READ_ORDER, |number| match number {
             1 => R::bad_id(id),
             12 => R::document(&self.held, id).is_none(),
@@ -563,13 +551,7 @@ impl<R: Rules> Replica for ModelOf<R> {
     }
 
     /// "Its hashes are written, 16 bytes each, and their count answered."
-    fn path(
-        &self,
-        id: &[u8],
-        number: u32,
-        hash: Hash,
-        out: &mut [u8],
-    ) -> Result<u32, Refusal> {
+    fn path(&self, id: &[u8], number: u32, hash: Hash, out: &mut [u8]) -> Result<u32, Refusal> {
         let revision = Revision { number, hash };
         let document = R::document(&self.held, id);
         let answer = document

@@ -76,18 +76,7 @@ fn all_hashes() -> Vec<Hash> {
 }
 
 /// Numbers after which the count of digits or of bytes grows, or the numbers end.
-const BASES: [u32; 10] = [
-    0,
-    0,
-    0,
-    1,
-    7,
-    97,
-    253,
-    65_533,
-    16_777_213,
-    4_294_967_291,
-];
+const BASES: [u32; 10] = [0, 0, 0, 1, 7, 97, 253, 65_533, 16_777_213, 4_294_967_291];
 
 const LABELS: [u64; 6] = [0, 1, 7, 8, 1 << 32, u64::MAX];
 

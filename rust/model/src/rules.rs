@@ -318,7 +318,9 @@ pub trait Rules {
         let mut rows = 0;
         for (index, entry) in image.entries.iter().enumerate() {
             let before = index.checked_sub(1).map(|before| &image.entries[before]);
-            if Self::bad_entry(image, entry, rows) || before.is_some_and(|b| !Self::ascend(b, entry)) {
+            if Self::bad_entry(image, entry, rows)
+                || before.is_some_and(|b| !Self::ascend(b, entry))
+            {
                 return Some(index as u32);
             }
             rows += usize::from(entry.rows);

@@ -75,7 +75,13 @@ impl fmt::Display for Step {
                 content,
                 parent,
             } => {
-                write!(f, "edit {at} {} {} {} ", word(id), hex(hash), words(*content))?;
+                write!(
+                    f,
+                    "edit {at} {} {} {} ",
+                    word(id),
+                    hex(hash),
+                    words(*content)
+                )?;
                 match parent {
                     Some((number, hash)) => write!(f, "on {number} {}", hex(hash)),
                     None => write!(f, "on none"),
@@ -89,14 +95,21 @@ impl fmt::Display for Step {
                 number,
                 hash,
                 room,
-            } => write!(f, "path {at} {} {number} {} room {room}", word(id), hex(hash)),
+            } => write!(
+                f,
+                "path {at} {} {number} {} room {room}",
+                word(id),
+                hex(hash)
+            ),
             Step::Missing {
                 at,
                 id,
                 asked,
                 room,
             } => write!(f, "missing {at} {} {} room {room}", word(id), word(asked)),
-            Step::Changes { at, after, room } => write!(f, "changes {at} after {after} room {room}"),
+            Step::Changes { at, after, room } => {
+                write!(f, "changes {at} after {after} room {room}")
+            }
             Step::Pull { at, from, after } => write!(f, "pull {at} from {from} after {after}"),
             Step::Reload { at, from } => write!(f, "reload {at} from {from}"),
             Step::UpdateSequence { at } => write!(f, "sequence {at}"),
@@ -217,12 +230,15 @@ struct Words<'a>(SplitWhitespace<'a>);
 
 impl<'a> Words<'a> {
     fn next(&mut self) -> Result<&'a str, String> {
-        self.0.next().ok_or_else(|| "the line ends early".to_string())
+        self.0
+            .next()
+            .ok_or_else(|| "the line ends early".to_string())
     }
 
     fn number<T: FromStr>(&mut self) -> Result<T, String> {
         let word = self.next()?;
-        word.parse().map_err(|_| format!("`{word}` is no such number"))
+        word.parse()
+            .map_err(|_| format!("`{word}` is no such number"))
     }
 
     /// A number after a word that says what it is.
@@ -260,7 +276,10 @@ impl<'a> Words<'a> {
             .collect();
         let digits = digits.filter(|digits| digits.len() % 2 == 0);
         let digits = digits.ok_or_else(wrong)?;
-        Ok(digits.chunks(2).map(|pair| pair[0] << 4 | pair[1]).collect())
+        Ok(digits
+            .chunks(2)
+            .map(|pair| pair[0] << 4 | pair[1])
+            .collect())
     }
 
     fn hash(&mut self) -> Result<[u8; 16], String> {
