@@ -19,6 +19,8 @@ fn main() {
     if archive.is_file() {
         println!("cargo::rustc-link-search=native={}", folder.display());
         println!("cargo::rustc-link-lib=static=refile");
+        // For the test that links the C example with the same archive.
+        println!("cargo::rustc-env=REFILE_ARCHIVE={}", archive.display());
     } else {
         println!(
             "cargo::error=There is no archive {}. Run `rt staticlib refile` at the top of the \

@@ -67,6 +67,5 @@ pub const ASKED_BYTES: usize = 20;
 pub const IMAGE_MOST: usize = 26_000;
 /// No report is longer.
 pub const REPORT_MOST: usize = 8_192;
-
-/// Bytes in a replica's buffer.
-const REPLICA_BYTES: usize = 26_000;
+/// Bytes that a replica owns.
+pub const REPLICA_BYTES: usize = 26_000;

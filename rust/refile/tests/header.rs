@@ -101,6 +101,7 @@ fn sizes_are_those_of_the_header() {
         ("HASH_BYTES", refile::HASH_BYTES),
         ("LEAF_BYTES", refile::LEAF_BYTES),
         ("ASKED_BYTES", refile::ASKED_BYTES),
+        ("REPLICA_BYTES", refile::REPLICA_BYTES),
         ("IMAGE_MOST", refile::IMAGE_MOST),
         ("REPORT_MOST", refile::REPORT_MOST),
     ] {
@@ -142,5 +143,8 @@ fn refusals_are_those_of_the_header() {
     let sizes = 13;
     let kinds = 2;
     let house = defined.keys().filter(|name| name.starts_with("BAD_"));
-    assert_eq!(defined.len(), refusals.len() + sizes + kinds + house.count());
+    assert_eq!(
+        defined.len(),
+        refusals.len() + sizes + kinds + house.count()
+    );
 }
