@@ -194,15 +194,17 @@ impl<R: Rules> ModelOf<R> {
         let added = R::adds(&self.held, given);
         let document = self.held.documents.entry(R::key(given.id)).or_default();
         if added {
-            for revision in given.revisions() {
+            for revision in R::revisions(given) {
                 let new = document.revisions.insert(revision);
                 if new && given.newest() == Some(revision) {
                     document.contents.insert(revision, given.content);
                 }
             }
             for (child, parent) in R::parents(given) {
-                document.parents.entry(child).or_insert(parent);
-                R::gain_child(document, parent);
+                if document.parent(child).is_none() {
+                    document.parents.insert(child, parent);
+                    R::gain_child(document, parent);
+                }
             }
         }
         let sequence = R::sequence_after(self.held.sequence, added);
@@ -610,7 +612,7 @@ impl<R: Rules> Replica for ModelOf<R> {
         let mut counts = Counts::default();
         for (id, document) in R::pulled_documents(&source.held, after) {
             for leaf in Self::leaves_in_order(document) {
-                if R::skips(&self.held, id, leaf) {
+                if R::skips(&self.held, id, document, leaf) {
                     counts.unchanged += 1;
                     continue;
                 }

@@ -48,9 +48,16 @@ pub trait Rules {
 
     // Writing a path
 
+    /// The revisions that the path gives, newest first. A hash of zeros is one like any other.
+    fn revisions(given: &Given) -> Vec<Revision> {
+        given.revisions()
+    }
+
     /// "Each hash is the parent of the one before it." Pairs of child and parent.
     fn parents(given: &Given) -> Vec<(Revision, Revision)> {
-        links(&given.revisions())
+        let revisions = Self::revisions(given);
+        let parents = revisions.iter().skip(1);
+        revisions.iter().copied().zip(parents.copied()).collect()
     }
 
     /// Whether there are "revisions and parents that the path gives and the replica lacks".
@@ -62,7 +69,7 @@ pub trait Rules {
     fn new_revisions(held: &Held, given: &Given) -> usize {
         let document = Self::document(held, given.id);
         let known = |revision| document.is_some_and(|document| document.knows(revision));
-        let revisions = given.revisions();
+        let revisions = Self::revisions(given);
         revisions.into_iter().filter(|&given| !known(given)).count()
     }
 
@@ -277,7 +284,7 @@ pub trait Rules {
     }
 
     /// "also where the target knows the leaf": no leaf is passed over.
-    fn skips(_target: &Held, _id: &[u8], _leaf: Leaf) -> bool {
+    fn skips(_target: &Held, _id: &[u8], _source: &Document, _leaf: Leaf) -> bool {
         false
     }
 
@@ -415,12 +422,6 @@ pub trait Rules {
 
     /// "A failed load leaves the former replica."
     fn failed_load(_former: &mut Held) {}
-}
-
-/// Each revision of a path with the next one, its parent.
-pub fn links(revisions: &[Revision]) -> Vec<(Revision, Revision)> {
-    let parents = revisions.iter().skip(1);
-    revisions.iter().copied().zip(parents.copied()).collect()
 }
 
 /// Whether the child has a known parent other than the given one.

@@ -18,9 +18,22 @@ use crate::{
 ///
 /// It owns its storage of 26,000 bytes, in one allocation, and shows it to nobody. Two replicas are
 /// equal exactly if they hold the same, sequences included.
-#[derive(Clone, PartialEq, Eq)]
+#[derive(PartialEq, Eq)]
 pub struct Replica {
     bytes: Box<[u8; REPLICA_BYTES]>,
+}
+
+impl Clone for Replica {
+    fn clone(&self) -> Replica {
+        Replica {
+            bytes: self.bytes.clone(),
+        }
+    }
+
+    /// Copies into the storage that is there; nothing is allocated.
+    fn clone_from(&mut self, source: &Replica) {
+        self.bytes.clone_from(&source.bytes);
+    }
 }
 
 /// The answer of an accepted call, or the refusal.

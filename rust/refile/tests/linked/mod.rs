@@ -3,8 +3,18 @@
 use refile::{Replica, Revision, RevisionNumber, Sequence, Written};
 use refile_model::{Change, Content, Counts, Refusal};
 
-#[derive(Clone, PartialEq, Eq, Debug)]
+#[derive(PartialEq, Eq, Debug)]
 pub struct Linked(pub Replica);
+
+impl Clone for Linked {
+    fn clone(&self) -> Self {
+        Linked(self.0.clone())
+    }
+
+    fn clone_from(&mut self, source: &Self) {
+        self.0.clone_from(&source.0);
+    }
+}
 
 fn content(content: Content) -> refile::Content {
     match content {
@@ -73,13 +83,7 @@ impl refile_model::Replica for Linked {
         count(self.0.leaves_into(id, out))
     }
 
-    fn path(
-        &self,
-        id: &[u8],
-        number: u32,
-        hash: [u8; 16],
-        out: &mut [u8],
-    ) -> Result<u32, Refusal> {
+    fn path(&self, id: &[u8], number: u32, hash: [u8; 16], out: &mut [u8]) -> Result<u32, Refusal> {
         count(self.0.path_into(id, Revision::new(number, hash), out))
     }
 
