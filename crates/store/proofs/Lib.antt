@@ -1,0 +1,5 @@
+-- Laws of the layout.
+pub mod PieceLaws
+pub mod RoundLaws
+pub mod StoredLaws
+pub mod FitLaws

@@ -1,0 +1,2 @@
+-- How a replica lies in a buffer.
+pub mod Storage

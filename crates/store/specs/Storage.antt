@@ -1,0 +1,111 @@
+-- A replica in a buffer: its bytes to the last one, what such bytes hold, and when a replica can be laid out so.
+use mathlib.Core.Path.{_≡_}
+use mathlib.Core.List.{List, [], _∷_, _++_, map}
+use mathlib.Core.Option.{Option, none, some}
+use Prim.Native.Nat.{ℕ, zero, suc, _+_, _-_, _*_, _≤_}
+use lib.ListN.{length, drop, replicate}
+use Rattle.rules.specs.declared.Content.{Content}
+use Rattle.rules.specs.declared.Revision.{Revision}
+use Rattle.rules.specs.Bytes.{be, pieces, join}
+use Rattle.rules.specs.Image.{Row, headSize, entrySize, rowSize, entryBytes, rowBytes, headOf, rowOf, entriesOf, deal, documentsIn}
+use Rattle.rules.specs.Map.{Map}
+use Rattle.rules.specs.Replica.{Id, Node, Document, Replica, IsContent, IsReplica, revisionsHeld}
+use Rattle.rules.specs.Room.{documentsMost, revisionsMost, idMost, hashSize, last}
+
+-- ---- the regions: a head, room for every entry, room for every row
+
+abbrev pub contentsRoom : ℕ
+contentsRoom = entrySize * documentsMost
+
+abbrev pub rowsRoom : ℕ
+rowsRoom = rowSize * revisionsMost
+
+-- where the rows begin
+abbrev pub rowsPlace : ℕ
+rowsPlace = headSize + contentsRoom
+
+abbrev pub storeSize : ℕ
+storeSize = rowsPlace + rowsRoom
+
+-- ---- the bytes of a replica
+
+-- bytes at the front of a region of n bytes, the rest of it zero
+unfoldable pub filled : ℕ → List ℕ → List ℕ
+filled n s = s ++ replicate (n - length s) 0
+
+-- an image's head without edition and total: documents d, revisions r and the update sequence
+unfoldable pub storedHead : ℕ → ℕ → ℕ → List ℕ
+storedHead d r q = be 2 0 ++ (be 2 d ++ (be 2 r ++ (be 2 0 ++ (be 4 q ++ be 4 0))))
+
+-- the entries of an image, each with place 0: places are worked out by saving only
+unfoldable pub storedEntries : Map Id Document → List (List ℕ)
+storedEntries ds = map (entryBytes 0) ds
+
+-- the rows of all documents, one document after the other
+unfoldable pub rowsIn : Map Id Document → List (Revision × Node)
+rowsIn [] = []
+rowsIn (d ∷ ds) = d .1 .tree ++ rowsIn ds
+
+unfoldable pub storedRows : Map Id Document → List (List ℕ)
+storedRows ds = map rowBytes (rowsIn ds)
+
+unfoldable pub stored : Replica → List ℕ
+stored r =
+    storedHead (length (r .documents)) (revisionsHeld (r .documents)) (r .seq .0)
+    ++ (filled contentsRoom (join (storedEntries (r .documents))) ++ filled rowsRoom (join (storedRows (r .documents))))
+
+-- ---- the replica that bytes are
+
+unfoldable pub rowsHeld : List ℕ → List Row
+rowsHeld s = map rowOf (pieces (headOf s .revisions) rowSize (drop rowsPlace s))
+
+unfoldable pub replicaOf : List ℕ → Replica
+replicaOf s = record {
+  seq = record { 0 = headOf s .seq };
+  documents = documentsIn (entriesOf s) (deal (entriesOf s) (rowsHeld s));
+}
+
+-- ---- which replicas can be read back
+
+abbrev pub All : {A : Type 0} → (A → Type 0) → List A → Type 0
+All P [] = Unit {0}
+All P (x ∷ xs) = P x × All P xs
+
+-- a parent's number is not kept, since it is one lower
+abbrev pub FitsParent : Revision → Option Revision → Type 0
+FitsParent v none = Unit {0}
+FitsParent v (some p) = (suc (p .number .0) ≡ v .number .0) × (length (p .hash) ≡ hashSize)
+
+abbrev pub FitsContent : Option Content → Type 0
+FitsContent none = Unit {0}
+FitsContent (some c) = IsContent c
+
+pub record FitsRow (v : Revision × Node) : Type 0 where
+  pub number : v .0 .number .0 ≤ last
+  pub hash : length (v .0 .hash) ≡ hashSize
+  pub parent : FitsParent (v .0) (v .1 .parent)
+  pub content : FitsContent (v .1 .content)
+
+pub record FitsDocument (d : Id × Document) : Type 0 where
+  pub id : length (d .0) ≤ idMost
+  pub seq : d .1 .seq .0 ≤ last
+  pub rows : All FitsRow (d .1 .tree)
+
+-- what a write passes through: not a replica yet, but with every field in its range
+pub record Storable (r : Replica) : Type 0 where
+  pub documents : All FitsDocument (r .documents)
+  pub documents-most : length (r .documents) ≤ documentsMost
+  pub revisions-most : revisionsHeld (r .documents) ≤ revisionsMost
+  pub seq-most : r .seq .0 ≤ last
+
+-- ---- buffers
+
+-- the bytes are those of what they hold, to the last one
+pub record Laid (s : List ℕ) : Type 0 where
+  pub same : s ≡ stored (replicaOf s)
+  pub fits : Storable (replicaOf s)
+
+-- a replica in a buffer
+pub record IsStored (s : List ℕ) : Type 0 where
+  pub same : s ≡ stored (replicaOf s)
+  pub replica : IsReplica (replicaOf s)
