@@ -1,0 +1,4 @@
+-- Laws of splices and of numbers in bytes.
+pub mod SpliceLaws
+pub mod NumberLaws
+pub mod ByteOrderLaws

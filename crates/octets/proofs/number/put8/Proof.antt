@@ -1,0 +1,42 @@
+-- `number::put8` meets its contract. Assumes nothing.
+use Prim.Native.Nat.{_%_, _/_}
+use native.Mathlib.Omega.{arith}
+use denote.Ref.{now}
+use borrow.Author.Needs.{needs}
+use Rattle.rules.specs.Bytes.{be}
+use Rattle.rules.proofs.ByteLaws.{length-be}
+use Rattle.octets.proofs.NumberLaws.{eight-bytes}
+use Rattle.octets.proofs.SpliceLaws.{splice-splice}
+use Rattle.octets.proofs.number.put8.Statement.{statement}
+use Rattle.octets.proofs.number.put8.Tie as tie
+
+cast-put4 : tie.Need-cast-put4
+cast-put4 c = search needs
+
+put4-requires : tie.Need-put4-requires
+put4-requires c κs = search needs
+
+add-put4 : tie.Need-add-put4
+add-put4 c = search needs
+
+cast-put4-2 : tie.Need-cast-put4-2
+cast-put4-2 c = search needs
+
+put4-requires-2 : tie.Need-put4-requires-2
+put4-requires-2 c κs = search needs
+
+same-length : tie.Need-same-length
+same-length c = search needs
+
+returns : tie.Need-returns
+returns c =
+    let a = (c .before .before .before .before .before .before .before .before .before) .args in
+    let n = length-be 4 (a .v / 4294967296) in
+    let m = length-be 4 (a .v % 4294967296) in
+    let w = splice-splice (now (a .s)) (a .at) (be 4 (a .v / 4294967296)) (be 4 (a .v % 4294967296)) (omega arith) in
+    rw (eight-bytes (a .v)) (cc (rw n at w))
+
+pub put8-spec : {M : Type 1} → statement M
+put8-spec =
+    tie.close
+    (tie.spec cast-put4 put4-requires add-put4 cast-put4-2 put4-requires-2 same-length returns)
