@@ -1,12 +1,10 @@
 -- How a loop over bytes meets the order and the test for zeros. Assumes nothing.
-use mathlib.Core.Path.{_≡_, refl, sym, ap, _∙_}
-use mathlib.Core.Bool.{Bool, true, false}
-use mathlib.Core.List.{List, [], _∷_}
-use Prim.Native.Nat.{ℕ, zero, suc, _+_, _≤_, _<_}
-use native.Mathlib.Nat.{not-suc-le-zero}
+use mathlib.Core.Path.{_≡_, refl, ap, _∙_}
+use mathlib.Core.Bool.{true, false}
+use mathlib.Core.List.{List}
+use Prim.Native.Nat.{ℕ, _+_, _≤_, _<_}
 use native.Mathlib.Numerals.{add-one}
 use native.Mathlib.Omega.{arith}
-use lib.Dec.{eqb}
 use lib.ListN.{length, getD, drop, drop-of-length-le}
 use lib.Seq.{drop-cons}
 use borrow.Author.Tests.{eq-eqb, ne-eqb}
@@ -14,7 +12,7 @@ use Rattle.rules.specs.declared.Order.{Order}
 use Rattle.rules.specs.declared.Order.the-variants.{Less, Equal, Greater}
 use Rattle.rules.specs.Order.{orderN, andThen, orderBytes, isEqual}
 use Rattle.rules.specs.Image.{allZero}
-use Rattle.rules.proofs.OrderLaws.{TotalOrder, orderN-same, orderN-self, orderN-less, less-orderN, orderN-turn, orderBytes-same, orderBytes-self, turn-less, less≢greater, less≢equal}
+use Rattle.rules.proofs.OrderLaws.{orderN-same, orderN-self, orderN-less, less-orderN, orderBytes-same}
 
 pub greater-orderN : (a b : ℕ) → b < a → orderN a b ≡ Greater
 greater-orderN a b h = go (orderN a b) refl

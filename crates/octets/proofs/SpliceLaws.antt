@@ -6,7 +6,7 @@ use native.Mathlib.Nat.{add-assoc, zero-add, add-zero, sub-zero}
 use native.Mathlib.Numerals.{add-one}
 use native.Mathlib.Omega.{arith}
 use lib.ListN.{length, getD, set, take, drop, replicate, length-append, length-take, length-drop, length-replicate, List·getD-append, take-append-drop, replicate-append-replicate}
-use lib.Seq.{take-suc, drop-cons, set-at, take-take, sets, sets-eq, paste, drop-length, take-at, drop-at, drop-drop, drop-append-le, take-append-le, getD-take, getD-drop, take-append-add, drop-append-add}
+use lib.Seq.{take-suc, drop-cons, set-at, take-take, sets, sets-eq, paste, drop-length, take-at, drop-at, drop-drop, drop-append-le, take-append-le, getD-take, take-append-add, drop-append-add}
 use borrow.Rule.Slice.PartMut.{putMid}
 use Rattle.rules.specs.Bytes.{part}
 use Rattle.octets.specs.Splice.{splice}

@@ -3,7 +3,7 @@ use mathlib.Core.Path.{_≡_}
 use mathlib.Core.List.{List}
 use Prim.Native.Nat.{ℕ, _<_}
 use lib.ListN.{length}
-use Rattle.rules.specs.Bytes.{value, part, Bytes}
+use Rattle.rules.specs.Bytes.{value, part}
 use Rattle.octets.specs.Splice.{splice}
 
 -- r is the number of k bytes at `at`, and below `limit`
