@@ -1,0 +1,5 @@
+-- The theorems about images, in Theorems, and the laws that they rest on.
+pub mod Tests
+pub mod Lists
+pub mod Rows
+pub mod Entries

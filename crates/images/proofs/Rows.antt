@@ -1,0 +1,403 @@
+-- One row of 48 bytes: its bytes are read back, its fields are written back, and a row that is not bad is
+-- one known revision. Assumes nothing.
+use mathlib.Core.Path.{_≡_, refl, sym, ap, ap₂, _∙_, subst}
+use mathlib.Core.Bool.{Bool, true, false, not, _&&_, _||_}
+use mathlib.Core.List.{List, [], _∷_, _++_, append-assoc, append-nil}
+use mathlib.Core.Logic.{_≢_}
+use mathlib.Core.Option.{Option, none, some}
+use Prim.Native.Nat.{ℕ, zero, suc, pred, _+_, _*_, _≤_, _<_}
+use native.Mathlib.Omega.{arith}
+use lib.Dec.{eqb, ltb}
+use lib.ListN.{length, getD, take, drop, replicate, length-append, length-replicate}
+use lib.Seq.{drop-length}
+use borrow.Author.Tests.{ltb-true, ltb-false, eqb-true, eqb-false, not-true, not-false, lt-ltb, le-ltb, eq-eqb, ne-eqb}
+use Rattle.rules.specs.declared.Content.{Content}
+use Rattle.rules.specs.declared.Content.the-variants.{Live, Deleted}
+use Rattle.rules.specs.declared.Revision.{Revision}
+use Rattle.rules.specs.Bytes.{be, value, part, Bytes}
+use Rattle.rules.specs.Choice.{pick}
+use Rattle.rules.specs.Image.{Row, rowOf, rowBytes, badRow, parentOfRow, nodeIn, contentOfKind, kindOf, labelOf, flagOf, parentHash, allZero, rowSize}
+use Rattle.rules.specs.Replica.{Hash, revision, Node, IsRevision, IsContent}
+use Rattle.rules.specs.Room.{hashSize, last, labels}
+use Rattle.rules.proofs.MapLaws.{none≢some, some-inj}
+use Rattle.images.proofs.Tests.{true≢false, none7, all7, both-none, and-none, zeros, all-zeros}
+use Rattle.rules.proofs.ByteLaws.{length-be, bytes-be, value-be, be-value-of, value-below, bytes-append, bytes-part, bytes-at, bytes-zeros, length-part, part-front, part-whole, part-past, getD-past, part-next, byte-next}
+
+-- ---- fields and bytes
+
+-- a row's bytes, by its fields
+unfoldable pub rowWith : Row → List ℕ
+rowWith w =
+    be 4 (w .rev .number .0)
+    ++ (w .rev .hash ++ (w .kind ∷ w .flag ∷ (be 2 (w .zero) ++ (w .parent ++ be 8 (w .label)))))
+
+-- fields that have room in their bytes
+pub record RowFits (w : Row) : Type 0 where
+  pub number : w .rev .number .0 < 4294967296
+  pub hash : length (w .rev .hash) ≡ 16
+  pub hash-bytes : Bytes (w .rev .hash)
+  pub kind : w .kind < 256
+  pub flag : w .flag < 256
+  pub zero : w .zero < 65536
+  pub parent : length (w .parent) ≡ 16
+  pub parent-bytes : Bytes (w .parent)
+  pub label : w .label < 18446744073709551616
+
+pub length-rowWith : (w : Row) → RowFits w → length (rowWith w) ≡ 48
+unfolding rowWith
+length-rowWith w f =
+    let h = f .hash in let p = f .parent in simp (length-append, length-be) (omega arith)
+
+pub bytes-rowWith : (w : Row) → RowFits w → Bytes (rowWith w)
+unfolding rowWith
+bytes-rowWith w f =
+    bytes-append (be 4 (w .rev .number .0)) _ (bytes-be 4 (w .rev .number .0))
+    (bytes-append (w .rev .hash) _ (f .hash-bytes) (
+      f .kind,
+      (
+        f .flag,
+        bytes-append (be 2 (w .zero)) _ (bytes-be 2 (w .zero)) (bytes-append (w .parent) _ (f .parent-bytes) (bytes-be 8 (w .label))),
+      ),
+    ))
+
+-- what is written is read back
+pub row-read : (w : Row) → RowFits w → rowOf (rowWith w) ≡ w
+unfolding rowOf rowWith
+row-read w f =
+    let N : List ℕ = be 4 (w .rev .number .0) in
+    let H : List ℕ = w .rev .hash in
+    let Z : List ℕ = be 2 (w .zero) in
+    let P : List ℕ = w .parent in
+    let L : List ℕ = be 8 (w .label) in
+    let t3 : List ℕ = P ++ L in
+    let t2 : List ℕ = w .kind ∷ w .flag ∷ (Z ++ t3) in
+    let t1 : List ℕ = H ++ t2 in
+    let n4 : length N ≡ 4 = length-be 4 (w .rev .number .0) in
+    let z2 : length Z ≡ 2 = length-be 2 (w .zero) in
+    let h : length H ≡ 16 = f .hash in
+    let past : (k n : ℕ) → part (4 + (16 + k)) n (N ++ t1) ≡ part k n t2 =
+    λ k n. part-past N t1 4 (16 + k) n n4 ∙ part-past H t2 16 k n h in
+    let past1 : (k : ℕ) → getD (N ++ t1) (4 + (16 + k)) 0 ≡ getD t2 k 0 =
+    λ k. getD-past N t1 4 (16 + k) n4 ∙ getD-past H t2 16 k h in
+    let e0 : value (part 0 4 (N ++ t1)) ≡ w .rev .number .0 = ap value (part-front N t1 4 n4) ∙ value-be 4 (w .rev .number .0) (f .number) in
+    let e4 : part 4 16 (N ++ t1) ≡ H = part-past N t1 4 0 16 n4 ∙ part-front H t2 16 h in
+    let e20 : getD (N ++ t1) 20 0 ≡ w .kind = past1 0 in
+    let e21 : getD (N ++ t1) 21 0 ≡ w .flag = past1 1 in
+    let e22 : value (part 22 2 (N ++ t1)) ≡ w .zero =
+    ap value (past 2 2 ∙ (part-past (w .kind ∷ w .flag ∷ []) (Z ++ t3) 2 0 2 refl ∙ part-front Z t3 2 z2)) ∙ value-be 2 (w .zero) (f .zero) in
+    let e24 : part 24 16 (N ++ t1) ≡ P =
+    past 4 16 ∙ (part-past (w .kind ∷ w .flag ∷ []) (Z ++ t3) 2 2 16 refl ∙ (part-past Z t3 2 0 16 z2 ∙ part-front P L 16 (f .parent))) in
+    let e40 : value (part 40 8 (N ++ t1)) ≡ w .label =
+    ap value
+    (past 20 8
+    ∙ (part-past (w .kind ∷ w .flag ∷ []) (Z ++ t3) 2 18 8 refl
+    ∙ (part-past Z t3 2 16 8 z2 ∙ (part-past P L 16 0 8 (f .parent) ∙ part-whole L 8 (length-be 8 (w .label))))))
+    ∙ value-be 8 (w .label) (f .label) in
+    λ i. record {
+      rev = record { number = record { 0 = e0 i }; hash = e4 i };
+      kind = e20 i;
+      flag = e21 i;
+      zero = e22 i;
+      parent = e24 i;
+      label = e40 i;
+    }
+
+module _ (b : List ℕ) (p : Bytes b) (size : length b ≡ 48) where
+  -- what is read fits
+  pub row-fits : RowFits (rowOf b)
+  unfolding rowOf
+  row-fits = record {
+    number = value-below 4 (part 0 4 b) (length-part 0 4 b (omega arith)) (bytes-part 0 4 b p);
+    hash = length-part 4 16 b (omega arith);
+    hash-bytes = bytes-part 4 16 b p;
+    kind = bytes-at b 20 p;
+    flag = bytes-at b 21 p;
+    zero = value-below 2 (part 22 2 b) (length-part 22 2 b (omega arith)) (bytes-part 22 2 b p);
+    parent = length-part 24 16 b (omega arith);
+    parent-bytes = bytes-part 24 16 b p;
+    label = value-below 8 (part 40 8 b) (length-part 40 8 b (omega arith)) (bytes-part 40 8 b p);
+  }
+
+  -- what is read is written back
+  pub row-written : rowWith (rowOf b) ≡ b
+  unfolding rowWith rowOf
+  row-written =
+      let number : (k n m : ℕ) → k + n ≡ m → m ≤ 48 → be n (value (part k n b)) ++ drop m b ≡ drop k b =
+      λ k n m e h. ap (λ (l : List ℕ). l ++ drop m b) (be-value-of n (part k n b) (length-part k n b (omega arith)) (bytes-part k n b p)) ∙ sym (part-next k n m b e) in
+      let e40 : be 8 (value (part 40 8 b)) ≡ drop 40 b = sym (append-nil (be 8 (value (part 40 8 b)))) ∙ (ap (λ (l : List ℕ). be 8 (value (part 40 8 b)) ++ l) (sym (drop-length b) ∙ ap (λ (k : ℕ). drop k b) size) ∙ number 40 8 48 refl (omega arith)) in
+      let e24 : part 24 16 b ++ be 8 (value (part 40 8 b)) ≡ drop 24 b = ap (λ (l : List ℕ). part 24 16 b ++ l) e40 ∙ sym (part-next 24 16 40 b refl) in
+      let e22 : be 2 (value (part 22 2 b)) ++ (part 24 16 b ++ be 8 (value (part 40 8 b))) ≡ drop 22 b = ap (λ (l : List ℕ). be 2 (value (part 22 2 b)) ++ l) e24 ∙ number 22 2 24 refl (omega arith) in
+      let e20 : _≡_ {A = List ℕ} (getD b 20 0 ∷ getD b 21 0 ∷ (be 2 (value (part 22 2 b)) ++ (part 24 16 b ++ be 8 (value (part 40 8 b))))) (drop 20 b) =
+      ap {B = List ℕ} (λ l. getD b 20 0 ∷ getD b 21 0 ∷ l) e22
+      ∙ (ap {B = List ℕ} (λ l. getD b 20 0 ∷ l) (sym (byte-next 21 22 b refl (omega arith))) ∙ sym (byte-next 20 21 b refl (omega arith))) in
+      let e4 = ap (λ (l : List ℕ). part 4 16 b ++ l) e20 ∙ sym (part-next 4 16 20 b refl) in
+      ap (λ (l : List ℕ). be 4 (value (part 0 4 b)) ++ l) e4 ∙ number 0 4 4 refl (omega arith)
+
+-- ---- a row that is not bad
+
+-- "kind, flag, zeros, number 0, parent at number 1, hash or label not zero"
+pub record RowRules (w : Row) : Type 0 where
+  pub kind : w .kind ≤ 2
+  pub flag : w .flag ≤ 1
+  pub zero : w .zero ≡ 0
+  pub number : 1 ≤ w .rev .number .0
+  pub first : w .flag ≡ 1 → w .rev .number .0 ≡ 1 → ⊥
+  pub hash : w .flag ≡ 0 → allZero (w .parent) ≡ true
+  pub label : (w .kind ≡ 1 → ⊥) → w .label ≡ 0
+
+pub rules-row : (w : Row) → RowRules w → badRow w ≡ false
+unfolding badRow
+rules-row w r =
+    all7 (ltb 2 (w .kind)) (ltb 1 (w .flag)) (not (eqb (w .zero) 0)) (eqb (w .rev .number .0) 0)
+    (eqb (w .flag) 1 && eqb (w .rev .number .0) 1) (eqb (w .flag) 0 && not (allZero (w .parent)))
+    (not (eqb (w .kind) 1) && not (eqb (w .label) 0)) (
+      le-ltb 2 (w .kind) (r .kind),
+      le-ltb 1 (w .flag) (r .flag),
+      ap not (eq-eqb (w .zero) 0 (r .zero)),
+      ne-eqb (w .rev .number .0) 0 (λ e. let h = r .number in omega arith),
+      both-none (eqb (w .flag) 1) (eqb (w .rev .number .0) 1) (λ e. ne-eqb (w .rev .number .0) 1 (r .first (eqb-true (w .flag) 1 e))),
+      both-none (eqb (w .flag) 0) (not (allZero (w .parent))) (λ e. ap not (r .hash (eqb-true (w .flag) 0 e))),
+      both-none (not (eqb (w .kind) 1)) (not (eqb (w .label) 0)) (λ e. ap not (eq-eqb (w .label) 0 (r .label (eqb-false (w .kind) 1 (not-true (eqb (w .kind) 1) e))))),
+    )
+
+pub row-rules : (w : Row) → badRow w ≡ false → RowRules w
+unfolding badRow
+row-rules w e =
+    let n =
+    none7 (ltb 2 (w .kind)) (ltb 1 (w .flag)) (not (eqb (w .zero) 0)) (eqb (w .rev .number .0) 0)
+    (eqb (w .flag) 1 && eqb (w .rev .number .0) 1) (eqb (w .flag) 0 && not (allZero (w .parent)))
+    (not (eqb (w .kind) 1) && not (eqb (w .label) 0)) e in
+    record {
+      kind = ltb-false 2 (w .kind) (n .0);
+      flag = ltb-false 1 (w .flag) (n .1);
+      zero = eqb-true (w .zero) 0 (not-false (eqb (w .zero) 0) (n .2));
+      number = let h : w .rev .number .0 ≢ 0 = eqb-false (w .rev .number .0) 0 (n .3) in omega arith;
+      first = λ p q. true≢false (sym (eq-eqb (w .rev .number .0) 1 q) ∙ and-none (eqb (w .flag) 1) (eqb (w .rev .number .0) 1) (n .4) (eq-eqb (w .flag) 1 p));
+      hash = λ p. not-false (allZero (w .parent)) (and-none (eqb (w .flag) 0) (not (allZero (w .parent))) (n .5) (eq-eqb (w .flag) 0 p));
+      label = λ p. eqb-true (w .label) 0 (not-false (eqb (w .label) 0) (and-none (not (eqb (w .kind) 1)) (not (eqb (w .label) 0)) (n .6) (ap not (ne-eqb (w .kind) 1 p))));
+    }
+
+-- ---- a row and a known revision
+
+-- what one known revision satisfies by itself
+pub record IsRow (v : Revision × Node) : Type 0 where
+  pub rev : IsRevision (v .0)
+  pub parent : (p : Revision) → v .1 .parent ≡ some p → IsRevision p
+  pub lower : (p : Revision) → v .1 .parent ≡ some p → suc (p .number .0) ≡ v .0 .number .0
+  pub content : (c : Content) → v .1 .content ≡ some c → IsContent c
+
+-- the fields that it has
+unfoldable pub rowFor : Revision × Node → Row
+rowFor v = record {
+  rev = v .0;
+  kind = kindOf (v .1 .content);
+  flag = flagOf (v .1 .parent);
+  zero = 0;
+  parent = parentHash (v .1 .parent);
+  label = labelOf (v .1 .content);
+}
+
+pub rowBytes-fields : (v : Revision × Node) → rowBytes v ≡ rowWith (rowFor v)
+unfolding rowBytes rowWith rowFor
+rowBytes-fields v = refl
+
+-- the parent that a flag, a number and a hash say
+unfoldable parentFrom : ℕ → ℕ → Hash → Option Revision
+parentFrom f n h = pick (eqb f 0) none (some (revision (pred n) h))
+
+flag-parent : (f n : ℕ) (h : Hash) → f ≤ 1 → flagOf (parentFrom f n h) ≡ f
+unfolding parentFrom
+flag-parent zero n h l = refl
+flag-parent (suc zero) n h l = refl
+flag-parent (suc (suc f)) n h l = absurd (omega arith)
+
+hash-parent : (f n : ℕ) (h : Hash) → f ≤ 1 → length h ≡ 16 → (f ≡ 0 → allZero h ≡ true) → parentHash (parentFrom f n h) ≡ h
+unfolding parentFrom
+hash-parent zero n h l s z = ap (λ (k : ℕ). replicate k 0) (sym s) ∙ sym (zeros h (z refl))
+hash-parent (suc zero) n h l s z = refl
+hash-parent (suc (suc f)) n h l s z = absurd (omega arith)
+
+parent-from : (f n : ℕ) (h : Hash) (p : Revision) → parentFrom f n h ≡ some p → revision (pred n) h ≡ p
+unfolding parentFrom
+parent-from zero n h p e = absurd (none≢some e)
+parent-from (suc f) n h p e = some-inj (ap (λ (b : Bool). pick b none (some (revision (pred n) h))) (sym (ne-eqb (suc f) 0 (λ x. omega arith))) ∙ e)
+
+parent-flag : (f n : ℕ) (h : Hash) (p : Revision) → parentFrom f n h ≡ some p → 1 ≤ f
+unfolding parentFrom
+parent-flag zero n h p e = absurd (none≢some e)
+parent-flag (suc f) n h p e = omega arith
+
+kind-content : (k l : ℕ) → k ≤ 2 → kindOf (contentOfKind k l) ≡ k
+kind-content zero l h = refl
+kind-content (suc zero) l h = refl
+kind-content (suc (suc zero)) l h = refl
+kind-content (suc (suc (suc k))) l h = absurd (omega arith)
+
+label-content : (k l : ℕ) → k ≤ 2 → ((k ≡ 1 → ⊥) → l ≡ 0) → labelOf (contentOfKind k l) ≡ l
+label-content zero l h z = sym (z λ e. omega arith)
+label-content (suc zero) l h z = refl
+label-content (suc (suc zero)) l h z = sym (z λ e. omega arith)
+label-content (suc (suc (suc k))) l h z = absurd (omega arith)
+
+is-content : (k l : ℕ) (c : Content) → k ≤ 2 → l < labels → contentOfKind k l ≡ some c → IsContent c
+is-content zero l c h m e = absurd (none≢some e)
+is-content (suc zero) l c h m e = subst IsContent (some-inj e) m
+is-content (suc (suc zero)) l c h m e = subst IsContent (some-inj e) tt
+is-content (suc (suc (suc k))) l c h m e = absurd (omega arith)
+
+-- ---- from a known revision to its row and back
+
+pub row-of-node : (v : Revision × Node) → IsRow v → nodeIn (rowFor v) ≡ v
+unfolding nodeIn rowFor parentOfRow
+row-of-node v r = λ i. (v .0, record { parent = e i; content = content-back (v .1 .content) i })
+  where
+    content-back : (c : Option Content) → contentOfKind (kindOf c) (labelOf c) ≡ c
+    content-back none = refl
+    content-back (some (Live n)) = refl
+    content-back (some Deleted) = refl
+
+    go : (p : Option Revision) → ((u : Revision) → p ≡ some u → suc (u .number .0) ≡ v .0 .number .0)
+        → pick (eqb (flagOf p) 0) none (some (revision (pred (v .0 .number .0)) (parentHash p))) ≡ p
+    go none f = refl
+    go (some u) f = let h = f u refl in let k : pred (v .0 .number .0) ≡ u .number .0 = omega arith in λ i. some (record { number = record { 0 = k i }; hash = u .hash })
+
+    e : pick (eqb (flagOf (v .1 .parent)) 0) none (some (revision (pred (v .0 .number .0)) (parentHash (v .1 .parent)))) ≡ v .1 .parent
+    e = go (v .1 .parent) (r .lower)
+
+pub node-of-row : (w : Row) → RowFits w → RowRules w → rowFor (nodeIn w) ≡ w
+unfolding nodeIn rowFor parentOfRow parentFrom
+node-of-row w f r =
+    let flag = flag-parent (w .flag) (w .rev .number .0) (w .parent) (r .flag) in
+    let hash = hash-parent (w .flag) (w .rev .number .0) (w .parent) (r .flag) (f .parent) (r .hash) in
+    let kind = kind-content (w .kind) (w .label) (r .kind) in
+    let label = label-content (w .kind) (w .label) (r .kind) (r .label) in
+    let z : 0 ≡ w .zero = sym (r .zero) in
+    λ i. record { rev = w .rev; kind = kind i; flag = flag i; zero = z i; parent = hash i; label = label i }
+
+-- what a flag, a number and a hash of a row that is not bad give
+pub node-is : (w : Row) → RowFits w → RowRules w → IsRow (nodeIn w)
+unfolding nodeIn parentOfRow parentFrom
+node-is w f r =
+    let n : ℕ = w .rev .number .0 in
+    let most = f .number in
+    let least = r .number in
+    let parent : (p : Revision) → parentFrom (w .flag) n (w .parent) ≡ some p → IsRevision p × (suc (p .number .0) ≡ n) =
+    λ p e.
+    let one = parent-flag (w .flag) n (w .parent) p e in
+    let top = r .flag in
+    let flag : w .flag ≡ 1 = omega arith in
+    let above : n ≢ 1 = r .first flag in
+    let low : 1 ≤ pred n = omega arith in
+    let high : pred n ≤ last = omega arith in
+    let one-lower : suc (pred n) ≡ n = omega arith in
+    subst (λ (v : Revision). IsRevision v × (suc (v .number .0) ≡ n)) (parent-from (w .flag) n (w .parent) p e)
+    (record { bytes = f .parent-bytes; size = f .parent; least = low; most = high }, one-lower) in
+    record {
+      rev = record { bytes = f .hash-bytes; size = f .hash; least = least; most = omega arith };
+      parent = λ p e. parent p e .0;
+      lower = λ p e. parent p e .1;
+      content = λ c e. is-content (w .kind) (w .label) c (r .kind) (f .label) e;
+    }
+
+-- the fields of a known revision fit and are not bad
+pub fields-fit : (v : Revision × Node) → IsRow v → RowFits (rowFor v)
+unfolding rowFor
+fields-fit v r =
+    let most = r .rev .most in
+    record {
+      number = omega arith;
+      hash = r .rev .size;
+      hash-bytes = r .rev .bytes;
+      kind = kind (v .1 .content);
+      flag = flag (v .1 .parent);
+      zero = omega arith;
+      parent = size (v .1 .parent) (r .parent);
+      parent-bytes = bytes (v .1 .parent) (r .parent);
+      label = label (v .1 .content) (r .content);
+    }
+  where
+    kind : (c : Option Content) → kindOf c < 256
+    kind none = omega arith
+    kind (some (Live n)) = omega arith
+    kind (some Deleted) = omega arith
+
+    flag : (p : Option Revision) → flagOf p < 256
+    flag none = omega arith
+    flag (some p) = omega arith
+
+    size : (p : Option Revision) → ((u : Revision) → p ≡ some u → IsRevision u) → length (parentHash p) ≡ 16
+    size none h = refl
+    size (some u) h = h u refl .size
+
+    bytes : (p : Option Revision) → ((u : Revision) → p ≡ some u → IsRevision u) → Bytes (parentHash p)
+    bytes none h = bytes-zeros 16
+    bytes (some u) h = h u refl .bytes
+
+    label : (c : Option Content) → ((d : Content) → c ≡ some d → IsContent d) → labelOf c < 18446744073709551616
+    label none h = omega arith
+    label (some (Live n)) h = h (Live n) refl
+    label (some Deleted) h = omega arith
+
+pub fields-rules : (v : Revision × Node) → IsRow v → RowRules (rowFor v)
+unfolding rowFor
+fields-rules v r = record {
+  kind = kind (v .1 .content);
+  flag = flag (v .1 .parent);
+  zero = refl;
+  number = r .rev .least;
+  first = first (v .1 .parent) (r .parent) (r .lower);
+  hash = hash (v .1 .parent);
+  label = label (v .1 .content);
+}
+  where
+    kind : (c : Option Content) → kindOf c ≤ 2
+    kind none = omega arith
+    kind (some (Live n)) = omega arith
+    kind (some Deleted) = omega arith
+
+    flag : (p : Option Revision) → flagOf p ≤ 1
+    flag none = omega arith
+    flag (some p) = omega arith
+
+    first : (p : Option Revision) → ((u : Revision) → p ≡ some u → IsRevision u)
+        → ((u : Revision) → p ≡ some u → suc (u .number .0) ≡ v .0 .number .0) → flagOf p ≡ 1 → v .0 .number .0 ≡ 1 → ⊥
+    first none h k e o = omega arith
+    first (some u) h k e o = let l = h u refl .least in let m = k u refl in omega arith
+
+    hash : (p : Option Revision) → flagOf p ≡ 0 → allZero (parentHash p) ≡ true
+    hash none e = all-zeros 16
+    hash (some u) e = absurd (omega arith)
+
+    label : (c : Option Content) → (kindOf c ≡ 1 → ⊥) → labelOf c ≡ 0
+    label none h = refl
+    label (some (Live n)) h = absurd (h refl)
+    label (some Deleted) h = refl
+
+-- ---- a known revision and 48 bytes
+
+module _ (v : Revision × Node) (r : IsRow v) where
+  pub length-row : length (rowBytes v) ≡ rowSize
+  length-row = ap length (rowBytes-fields v) ∙ length-rowWith (rowFor v) (fields-fit v r)
+
+  pub bytes-row : Bytes (rowBytes v)
+  bytes-row = subst Bytes (sym (rowBytes-fields v)) (bytes-rowWith (rowFor v) (fields-fit v r))
+
+  pub row-fields : rowOf (rowBytes v) ≡ rowFor v
+  row-fields = ap rowOf (rowBytes-fields v) ∙ row-read (rowFor v) (fields-fit v r)
+
+  -- a known revision's row is read back as it
+  pub row-round : nodeIn (rowOf (rowBytes v)) ≡ v
+  row-round = ap nodeIn row-fields ∙ row-of-node v r
+
+  pub row-not-bad : badRow (rowOf (rowBytes v)) ≡ false
+  row-not-bad = ap badRow row-fields ∙ rules-row (rowFor v) (fields-rules v r)
+
+module _ (b : List ℕ) (p : Bytes b) (size : length b ≡ rowSize) (e : badRow (rowOf b) ≡ false) where
+  pub row-is : IsRow (nodeIn (rowOf b))
+  row-is = node-is (rowOf b) (row-fits b p size) (row-rules (rowOf b) e)
+
+  -- a row that is not bad is written back from what it holds
+  pub row-back : rowBytes (nodeIn (rowOf b)) ≡ b
+  row-back =
+      rowBytes-fields (nodeIn (rowOf b))
+      ∙ (ap rowWith (node-of-row (rowOf b) (row-fits b p size) (row-rules (rowOf b) e)) ∙ row-written b p size)
