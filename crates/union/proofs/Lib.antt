@@ -1,0 +1,5 @@
+-- Demand 3 and the laws it rests on.
+pub mod Nodes
+pub mod Trees
+pub mod Paths
+pub mod Count
