@@ -3,3 +3,5 @@ pub mod Nodes
 pub mod Trees
 pub mod Paths
 pub mod Count
+pub mod Growth
+pub mod Replicas

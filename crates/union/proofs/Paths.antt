@@ -119,9 +119,9 @@ module _ (t : Tree) (G : Given) (es : List Entry) (a : Rep t G) (g : Agrees (G �
   at-some : (r : Revision) (c : Node) → find orderRev r t ≡ some c → AtSome c (λ c. G (r, c))
   at-some r c e = rw e at (a .at r)
 
-  pub not-otherParent : any (otherParent t) es ≡ false
+  pub not-crossed : any (otherParent t) es ≡ false
   unfolding otherParent
-  not-otherParent = any-none (otherParent t) es (λ x m. go x m (find orderRev (x .0) t) refl)
+  not-crossed = any-none (otherParent t) es (λ x m. go x m (find orderRev (x .0) t) refl)
     where
       go : (x : Entry) → In x es → (o : Option Node) → find orderRev (x .0) t ≡ o → otherParent t x ≡ false
       go x m none e = rw e refl
