@@ -5,3 +5,5 @@ pub mod Paths
 pub mod Count
 pub mod Growth
 pub mod Replicas
+pub mod Lists
+pub mod Winners
