@@ -29,6 +29,7 @@ module _ {K : Type 0} (O : TotalOrder K) where
       skip : (O .cmp k x ≡ Equal → ⊥) → In k (x ∷ xs) → In k xs
       skip n (inl q) = absurd (n (subst (λ (z : K). O .cmp k z ≡ Equal) q (O .self k)))
       skip n (inr i) = i
+
       go : (o : Order) → O .cmp k x ≡ o → In k (x ∷ xs) → (In k xs → length xs ≡ suc (length (remove k xs))) → length (x ∷ xs) ≡ suc (length (remove k (x ∷ xs)))
       go Less p i ih = rw p (ap suc (ih (skip (λ q. less≢equal (sym p ∙ q)) i)))
       go Equal p i ih = rw p refl
@@ -85,7 +86,7 @@ module _ {K A : Type 0} (O : TotalOrder K) where
   pigeon (x ∷ xs) s L h =
       let a = remove-length O (x .0) L (h x (inl refl)) in
       let b = pigeon xs (s .1) (remove O (x .0) L) (λ y m. remove-keeps O (x .0) (y .0) L
-            (λ q. less≢equal (sym (below-all (x .0) xs (s .0) (s .1) y m) ∙ q)) (h y (inr m))) in
+      (λ q. less≢equal (sym (below-all (x .0) xs (s .0) (s .1) y m) ∙ q)) (h y (inr m))) in
       omega arith
 
 -- ---- the revisions of all documents
@@ -115,6 +116,7 @@ mine-has i r (p ∷ ps) m = go (orderBytes i (p .0)) refl m (λ t. mine-has i r 
   where
     no : (orderBytes i (p .0) ≡ Equal → ⊥) → (i, r) ≡ p → ⊥
     no n q = n (subst (λ (z : Id × Revision). orderBytes i (z .0) ≡ Equal) q (bytesOrder .self i))
+
     go : (o : Order) → orderBytes i (p .0) ≡ o → In (i, r) (p ∷ ps) → (In (i, r) ps → In r (mine i ps)) → In r (mine i (p ∷ ps))
     go Less e (inl q) ih = absurd (no (λ t. less≢equal (sym e ∙ t)) q)
     go Less e (inr t) ih = rw e (ih t)
@@ -144,9 +146,8 @@ total-fits (d ∷ ds) s k L h =
     let a = split-length (d .0) L in
     let b = pigeon revOrder (d .1 .tree) (k d (inl refl)) (mine (d .0) L) (λ e m. mine-has (d .0) (e .0) L (h d (inl refl) e m)) in
     let c = total-fits ds (s .1) (λ x m. k x (inr m)) (rest (d .0) L)
-          (λ x m e i. rest-has (d .0) (x .0) (e .0) L (λ q. less≢equal (sym (below-all bytesOrder (d .0) ds (s .0) (s .1) x m) ∙ q)) (h x (inr m) e i)) in
+    (λ x m e i. rest-has (d .0) (x .0) (e .0) L (λ q. less≢equal (sym (below-all bytesOrder (d .0) ds (s .0) (s .1) x m) ∙ q)) (h x (inr m) e i)) in
     omega arith
-
 
 -- ---- sums over a map
 module _ {K A : Type 0} (g : A → ℕ) where

@@ -59,9 +59,9 @@ add-all-length (y ∷ ys) (suc n) b t h =
     let a = add-all-length ys n none (add t e) (omega arith) in
     let c = add-length t e in
     let d = new-stays t e (along n ys none)
-        (λ x m q. let u = along-numbers ys n none (omega arith) x m .high in
-            let v : x .0 .number .0 ≡ suc n = ap (λ (r : Revision). r .number .0) (revOrder .same (x .0) (e .0) q) in
-            omega arith) in
+    (λ x m q. let u = along-numbers ys n none (omega arith) x m .high in
+    let v : x .0 .number .0 ≡ suc n = ap (λ (r : Revision). r .number .0) (revOrder .same (x .0) (e .0) q) in
+    omega arith) in
     omega arith
 
 documentSize : Document → ℕ

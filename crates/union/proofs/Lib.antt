@@ -7,3 +7,7 @@ pub mod Growth
 pub mod Replicas
 pub mod Lists
 pub mod Winners
+pub mod Fold
+pub mod Sequence
+pub mod Frame
+pub mod Demand3

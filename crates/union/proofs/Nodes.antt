@@ -10,7 +10,6 @@ use Rattle.rules.specs.Write.{keeps, learn}
 use Rattle.rules.proofs.MapLaws.{none≢some, some-inj}
 
 infixl 40 _⊕_
-
 -- a set of nodes
 abbrev pub Set : Type 1
 Set = Node → Type 0
@@ -39,13 +38,14 @@ pub record Agree (S : Set) : Type 0 where
 pub at-iff : (o : Option Node) (S R : Set) → ((c : Node) → S c → R c) → ((c : Node) → R c → S c) → At o S → At o R
 at-iff none S R f g a = λ c r. a c (g c r)
 at-iff (some c) S R f g a = record {
-    known = (a .known .0, f (a .known .0) (a .known .1));
-    parent-of = λ p e. let t = a .parent-of p e in (t .0, f (t .0) (t .1), t .2);
-    parent-to = λ d p r e. a .parent-to d p (g d r) e;
-    content-of = λ b e. let t = a .content-of b e in (t .0, f (t .0) (t .1), t .2);
-    inner = λ e. let t = a .inner e in (t .0, f (t .0) (t .1), t .2);
-    leaf = λ b e d r n. a .leaf b e d (g d r) n;
-    content-to = λ d b h r e. a .content-to d b (λ x s n. h x (f x s) n) (g d r) e }
+  known = (a .known .0, f (a .known .0) (a .known .1));
+  parent-of = λ p e. let t = a .parent-of p e in (t .0, f (t .0) (t .1), t .2);
+  parent-to = λ d p r e. a .parent-to d p (g d r) e;
+  content-of = λ b e. let t = a .content-of b e in (t .0, f (t .0) (t .1), t .2);
+  inner = λ e. let t = a .inner e in (t .0, f (t .0) (t .1), t .2);
+  leaf = λ b e d r n. a .leaf b e d (g d r) n;
+  content-to = λ d b h r e. a .content-to d b (λ x s n. h x (f x s) n) (g d r) e;
+}
 
 -- the first of two options
 or-of : {A : Type 0} (x y : Option A) (p : A) → orElse x y ≡ some p → (x ≡ some p) ⊎ ((x ≡ none) × (y ≡ some p))
@@ -77,36 +77,43 @@ by-option (some a) f g = g a refl
 
 pub learn-at : (o : Option Node) (x : Node) (S : Set) → At o S → Agree (S ⊕ x) → At (some (learn x o)) (S ⊕ x)
 learn-at none x S a g = record {
-    known = (x, inl refl);
-    parent-of = λ p e. (x, inl refl, e);
-    parent-to = λ d p r e. elim r [ inl q ↦ ap (λ (c : Node). c .parent) (sym q) ∙ e | inr s ↦ absurd (a d s) ];
-    content-of = λ b e. (x, inl refl, e);
-    inner = λ e. (x, inl refl, e);
-    leaf = λ b e d r n. elim r [ inl q ↦ none≢some (sym n ∙ (ap (λ (c : Node). c .content) q ∙ e)) | inr s ↦ a d s ];
-    content-to = λ d b h r e. elim r [ inl q ↦ ap (λ (c : Node). c .content) (sym q) ∙ e | inr s ↦ absurd (a d s) ] }
+  known = (x, inl refl);
+  parent-of = λ p e. (x, inl refl, e);
+  parent-to = λ d p r e. elim r [ inl q ↦ ap (λ (c : Node). c .parent) (sym q) ∙ e | inr s ↦ absurd (a d s) ];
+  content-of = λ b e. (x, inl refl, e);
+  inner = λ e. (x, inl refl, e);
+  leaf = λ b e d r n. elim r [ inl q ↦ none≢some (sym n ∙ (ap (λ (c : Node). c .content) q ∙ e)) | inr s ↦ a d s ];
+  content-to = λ d b h r e. elim r [ inl q ↦ ap (λ (c : Node). c .content) (sym q) ∙ e | inr s ↦ absurd (a d s) ];
+}
 learn-at (some c) x S a g = record {
-    known = (a .known .0, inr (a .known .1));
-    parent-of = λ p e. elim (or-of (c .parent) (x .parent) p e) [
-        inl q ↦ (let t = a .parent-of p q in (t .0, inr (t .1), t .2))
-      | inr q ↦ (x, inl refl, q .1) ];
-    parent-to = λ d p r e. elim r [
-        inl q ↦ or-right (c .parent) (x .parent) p
-          (λ b z. let t = a .parent-of b z in g .parents (t .0) x b p (inr (t .1)) (inl refl) (t .2) (ap (λ (c : Node). c .parent) (sym q) ∙ e))
-          (ap (λ (c : Node). c .parent) (sym q) ∙ e)
-      | inr s ↦ or-left (c .parent) (x .parent) p (a .parent-to d p s e) ];
-    inner = λ e. elim (keep-none (x .content) (c .content) e) [
-        inl n ↦ (x, inl refl, n)
-      | inr n ↦ (let t = a .inner n in (t .0, inr (t .1), t .2)) ];
-    content-of = λ b e. let t = a .content-of b (keep-of (x .content) (c .content) b e .1) in (t .0, inr (t .1), t .2);
-    leaf = λ b e d r n. elim r [
-        inl q ↦ keep-of (x .content) (c .content) b e .0 (ap (λ (c : Node). c .content) (sym q) ∙ n)
-      | inr s ↦ a .leaf b (keep-of (x .content) (c .content) b e .1) d s n ];
-    content-to = λ d b h r e. keep-to (x .content) (c .content) b (λ n. h x (inl refl) n) (elim r [
-        inl q ↦ by-option (a .known .0 .content)
-          (λ n. absurd (h (a .known .0) (inr (a .known .1)) n))
-          (λ t z. a .content-to (a .known .0) t (λ y s n. h y (inr s) n) (a .known .1) z
-             ∙ ap some (g .contents (a .known .0) x t b (inr (a .known .1)) (inl refl) z (ap (λ (c : Node). c .content) (sym q) ∙ e)))
-      | inr s ↦ a .content-to d b (λ y s n. h y (inr s) n) s e ]) }
+  known = (a .known .0, inr (a .known .1));
+  parent-of = λ p e. elim (or-of (c .parent) (x .parent) p e) [
+    | inl q ↦ (let t = a .parent-of p q in (t .0, inr (t .1), t .2))
+    | inr q ↦ (x, inl refl, q .1)
+  ];
+  parent-to = λ d p r e. elim r [
+    | inl q ↦ or-right (c .parent) (x .parent) p
+        (λ b z. let t = a .parent-of b z in g .parents (t .0) x b p (inr (t .1)) (inl refl) (t .2) (ap (λ (c : Node). c .parent) (sym q) ∙ e))
+        (ap (λ (c : Node). c .parent) (sym q) ∙ e)
+    | inr s ↦ or-left (c .parent) (x .parent) p (a .parent-to d p s e)
+  ];
+  inner = λ e. elim (keep-none (x .content) (c .content) e) [
+    | inl n ↦ (x, inl refl, n)
+    | inr n ↦ (let t = a .inner n in (t .0, inr (t .1), t .2))
+  ];
+  content-of = λ b e. let t = a .content-of b (keep-of (x .content) (c .content) b e .1) in (t .0, inr (t .1), t .2);
+  leaf = λ b e d r n. elim r [
+    | inl q ↦ keep-of (x .content) (c .content) b e .0 (ap (λ (c : Node). c .content) (sym q) ∙ n)
+    | inr s ↦ a .leaf b (keep-of (x .content) (c .content) b e .1) d s n
+  ];
+  content-to = λ d b h r e. keep-to (x .content) (c .content) b (λ n. h x (inl refl) n) (elim r [
+    | inl q ↦ by-option (a .known .0 .content)
+        (λ n. absurd (h (a .known .0) (inr (a .known .1)) n))
+        (λ t z. a .content-to (a .known .0) t (λ y s n. h y (inr s) n) (a .known .1) z
+        ∙ ap some (g .contents (a .known .0) x t b (inr (a .known .1)) (inl refl) z (ap (λ (c : Node). c .content) (sym q) ∙ e)))
+    | inr s ↦ a .content-to d b (λ y s n. h y (inr s) n) s e
+  ]);
+}
 
 -- the set decides the node
 opt-ext : {A : Type 0} (x y : Option A) → ((a : A) → x ≡ some a → y ≡ some a) → ((a : A) → y ≡ some a → x ≡ some a) → x ≡ y
@@ -120,10 +127,9 @@ at-unique none (some d) S a b = absurd (a (b .known .0) (b .known .1))
 at-unique (some c) none S a b = absurd (b (a .known .0) (a .known .1))
 at-unique (some c) (some d) S a b =
     let p = opt-ext (c .parent) (d .parent)
-        (λ r e. let t = a .parent-of r e in b .parent-to (t .0) r (t .1) (t .2))
-        (λ r e. let t = b .parent-of r e in a .parent-to (t .0) r (t .1) (t .2)) in
+    (λ r e. let t = a .parent-of r e in b .parent-to (t .0) r (t .1) (t .2))
+    (λ r e. let t = b .parent-of r e in a .parent-to (t .0) r (t .1) (t .2)) in
     let q = opt-ext (c .content) (d .content)
-        (λ r e. let t = a .content-of r e in b .content-to (t .0) r (a .leaf r e) (t .1) (t .2))
-        (λ r e. let t = b .content-of r e in a .content-to (t .0) r (b .leaf r e) (t .1) (t .2)) in
+    (λ r e. let t = a .content-of r e in b .content-to (t .0) r (a .leaf r e) (t .1) (t .2))
+    (λ r e. let t = b .content-of r e in a .content-to (t .0) r (b .leaf r e) (t .1) (t .2)) in
     ap some (λ i. record { parent = p i; content = q i })
-

@@ -69,17 +69,21 @@ path-up (h ∷ hs) n b r c (inr m) e = go (older-up hs (pred n) r c m)
 pub write-closed : (w : Write) → Closed (λ x. In x (gives w))
 unfolding gives
 write-closed w = record {
-    down = λ x p m e. along-down (hashes w) (w .number .0) (some (w .content)) x p m e;
-    up = λ r c m e. path-up (hashes w) (w .number .0) (w .content) r c m e }
+  down = λ x p m e. along-down (hashes w) (w .number .0) (some (w .content)) x p m e;
+  up = λ r c m e. path-up (hashes w) (w .number .0) (w .content) r c m e;
+}
 
 pub closed-∪ : (G : Given) (es : List Entry) → Closed G → Closed (λ x. In x es) → Closed (G ∪ es)
 closed-∪ G es a b = record {
-    down = λ x p m e. elim m [
-        inl s ↦ (let t = b .down x p s e in (t .0, inl (t .1), t .2))
-      | inr s ↦ (let t = a .down x p s e in (t .0, inr (t .1), t .2)) ];
-    up = λ r c m e. elim m [
-        inl s ↦ (let t = b .up r c s e in (t .0, inl (t .1), t .2))
-      | inr s ↦ (let t = a .up r c s e in (t .0, inr (t .1), t .2)) ] }
+  down = λ x p m e. elim m [
+    | inl s ↦ (let t = b .down x p s e in (t .0, inl (t .1), t .2))
+    | inr s ↦ (let t = a .down x p s e in (t .0, inr (t .1), t .2))
+  ];
+  up = λ r c m e. elim m [
+    | inl s ↦ (let t = b .up r c s e in (t .0, inl (t .1), t .2))
+    | inr s ↦ (let t = a .up r c s e in (t .0, inr (t .1), t .2))
+  ];
+}
 
 -- ---- tests over a list
 pub any-out : {A : Type 0} (p : A → Bool) (xs : List A) (x : A) → any p xs ≡ false → In x xs → p x ≡ false
@@ -163,34 +167,40 @@ module _ (t : Tree) (G : Given) (es : List Entry) (a : Rep t G) (g : Agrees (G �
     where
       quiet : (x : Entry) → In x es → isAddition t x ≡ false
       quiet x m = any-out (isAddition t) es x no-adds m
+
       some-at : (r : Revision) (c : Node) → find orderRev r t ≡ some c → AtSome c (λ c. (G ∪ es) (r, c))
       some-at r c f = let b = at-some r c f in record {
-          known = (b .known .0, inr (b .known .1));
-          parent-of = λ p e. let t = b .parent-of p e in (t .0, inr (t .1), t .2);
-          parent-to = λ d p m e. elim m [
-              inl i ↦ (let t = held-parent (r, d) p i (quiet (r, d) i) e in subst (λ (z : Node). z .parent ≡ some p) (some-inj (sym (t .1) ∙ f)) (t .2))
-            | inr s ↦ b .parent-to d p s e ];
-          content-of = λ p e. let t = b .content-of p e in (t .0, inr (t .1), t .2);
-          inner = λ e. let t = b .inner e in (t .0, inr (t .1), t .2);
-          leaf = λ p e d m n. elim m [
-              inl i ↦ (let t = l .up r d i n in
-                       let u = held-parent (t .0) r (t .1) (quiet (t .0) (t .1)) (t .2) in
-                       let v = at-some (t .0 .0) (u .0) (u .1) .parent-of r (u .2) in
-                       let y = k .down (t .0 .0, v .0) r (v .1) (v .2) in
-                       b .leaf p e (y .0) (y .1) (y .2))
-            | inr s ↦ b .leaf p e d s n ];
-          content-to = λ d p h m e. elim m [
-              inl i ↦ by-option (b .known .0 .content)
-                (λ n. absurd (h (b .known .0) (inr (b .known .1)) n))
-                (λ t z. b .content-to (b .known .0) t (λ y s n. h y (inr s) n) (b .known .1) z
-                  ∙ ap some (g r .contents (b .known .0) d t p (inr (b .known .1)) (inl i) z e))
-            | inr s ↦ b .content-to d p (λ y s n. h y (inr s) n) s e ] }
+        known = (b .known .0, inr (b .known .1));
+        parent-of = λ p e. let t = b .parent-of p e in (t .0, inr (t .1), t .2);
+        parent-to = λ d p m e. elim m [
+          | inl i ↦ (let t = held-parent (r, d) p i (quiet (r, d) i) e in subst (λ (z : Node). z .parent ≡ some p) (some-inj (sym (t .1) ∙ f)) (t .2))
+          | inr s ↦ b .parent-to d p s e
+        ];
+        content-of = λ p e. let t = b .content-of p e in (t .0, inr (t .1), t .2);
+        inner = λ e. let t = b .inner e in (t .0, inr (t .1), t .2);
+        leaf = λ p e d m n. elim m [
+          | inl i ↦ (let t = l .up r d i n in
+              let u = held-parent (t .0) r (t .1) (quiet (t .0) (t .1)) (t .2) in
+              let v = at-some (t .0 .0) (u .0) (u .1) .parent-of r (u .2) in
+              let y = k .down (t .0 .0, v .0) r (v .1) (v .2) in
+              b .leaf p e (y .0) (y .1) (y .2))
+          | inr s ↦ b .leaf p e d s n
+        ];
+        content-to = λ d p h m e. elim m [
+          | inl i ↦ by-option (b .known .0 .content)
+              (λ n. absurd (h (b .known .0) (inr (b .known .1)) n))
+              (λ t z. b .content-to (b .known .0) t (λ y s n. h y (inr s) n) (b .known .1) z
+              ∙ ap some (g r .contents (b .known .0) d t p (inr (b .known .1)) (inl i) z e))
+          | inr s ↦ b .content-to d p (λ y s n. h y (inr s) n) s e
+        ];
+      }
+
       go : (r : Revision) (o : Option Node) → find orderRev r t ≡ o → At (find orderRev r t) (λ c. (G ∪ es) (r, c))
       go r none f = rw f (λ c m. elim m [
-          inl i ↦ (let t = held (r, c) (quiet (r, c) i) in none≢some (sym f ∙ t .1))
-        | inr s ↦ (rw f at (a .at r)) c s ])
+        | inl i ↦ (let t = held (r, c) (quiet (r, c) i) in none≢some (sym f ∙ t .1))
+        | inr s ↦ (rw f at (a .at r)) c s
+      ])
       go r (some c) f = rw f (some-at r c f)
-
 
 -- ---- the numbers of a path
 

@@ -45,7 +45,6 @@ things G = record {
 }
 
 infixl 40 _⊎w_
-
 abbrev pub _⊎w_ : Givens → Write → Givens
 _⊎w_ G w = λ i x. ((w .id ≡ i) × In x (gives w)) ⊎ G i x
 
@@ -167,11 +166,12 @@ module _ (r : Replica) (w : Write) (G : Givens) (a : Holds r G) (g : (i : Id) �
   holds-added = record {
     ascending = ascending-alter bytesOrder (w .id) now (r .documents) (a .ascending);
     at = by-id (λ i. DocAt (find orderBytes i (added r w .documents)) ((G ⊎w w) i))
-        (rw (find-same bytesOrder (w .id) now (r .documents))
-          (rep-iff (addAll (gives w) (treeOf r (w .id))) (G (w .id) ∪ gives w) ((G ⊎w w) (w .id)) out-of in-to rep-after,
-            (let t = some-entry w k in (t .0, inl (refl, t .1)))))
+        (rw (find-same bytesOrder (w .id) now (r .documents)) (
+          rep-iff (addAll (gives w) (treeOf r (w .id))) (G (w .id) ∪ gives w) ((G ⊎w w) (w .id)) out-of in-to rep-after,
+          (let t = some-entry w k in (t .0, inl (refl, t .1))),
+        ))
         (λ i n. rw (find-other bytesOrder i (w .id) now (r .documents) n)
-          (doc-iff (find orderBytes i (r .documents)) (G i) ((G ⊎w w) i) (λ x t. inr t) (other i n) (a .at i)));
+        (doc-iff (find orderBytes i (r .documents)) (G i) ((G ⊎w w) i) (λ x t. inr t) (other i n) (a .at i)));
   }
     where
       now : Option Document → Document
@@ -183,7 +183,7 @@ module _ (r : Replica) (w : Write) (G : Givens) (a : Holds r G) (g : (i : Id) �
     ascending = a .ascending;
     at = by-id (λ i. DocAt (find orderBytes i (r .documents)) ((G ⊎w w) i))
         (here (find orderBytes (w .id) (r .documents)) (a .at (w .id))
-          (rep-same (treeOf r (w .id)) (G (w .id)) (gives w) rep-now agree-here (c (w .id)) (write-closed w) e))
+        (rep-same (treeOf r (w .id)) (G (w .id)) (gives w) rep-now agree-here (c (w .id)) (write-closed w) e))
         (λ i n. doc-iff (find orderBytes i (r .documents)) (G i) ((G ⊎w w) i) (λ x t. inr t) (other i n) (a .at i));
   }
     where
@@ -210,6 +210,7 @@ revisions-fit r G a f =
   where
     doc : (x : Id × Document) → In x (r .documents) → DocAt (some (x .1)) (G (x .0))
     doc x m = rw (in-find bytesOrder (r .documents) (a .ascending) x m) at (a .at (x .0))
+
     go : (x : Id × Document) → In x (r .documents) → (e : Entry) → In e (x .1 .tree) → In (x .0, e .0) (f .revisions)
     go x m e i =
         let t = doc x m .0 in
@@ -238,11 +239,31 @@ module _ (r : Replica) (w : Write) (G : Givens) (a : Holds r G) (g : (i : Id) �
   pub not-refused : (adds r w ≡ true → r .seq .0 < last) → firstThat (writeRefusals r w) ≡ none
   unfolding writeRefusals roomRefusals sequenceSpent
   not-refused q =
-      first-none (writeRefusals r w) (k .id-ok, (k .path-ok, (k .number-ok, (
-        not-crossed (treeOf r (w .id)) (G (w .id)) (gives w) (rep-now r w G a g k) (agree-here r w G a g k), (
-        not-other (treeOf r (w .id)) (G (w .id)) (gives w) (rep-now r w G a g k) (agree-here r w G a g k), (
-        not-full, (room, (
-        and-false (adds r w) (eqb (r .seq .0) last) (λ e. let h = q e in ne-eqb (r .seq .0) last (λ z. omega arith)), tt))))))))
+      first-none (writeRefusals r w) (
+        k .id-ok,
+        (
+          k .path-ok,
+          (
+            k .number-ok,
+            (
+              not-crossed (treeOf r (w .id)) (G (w .id)) (gives w) (rep-now r w G a g k) (agree-here r w G a g k),
+              (
+                not-other (treeOf r (w .id)) (G (w .id)) (gives w) (rep-now r w G a g k) (agree-here r w G a g k),
+                (
+                  not-full,
+                  (
+                    room,
+                    (
+                      and-false (adds r w) (eqb (r .seq .0) last) (λ e. let h = q e in ne-eqb (r .seq .0) last (λ z. omega arith)),
+                      tt,
+                    ),
+                  ),
+                ),
+              ),
+            ),
+          ),
+        ),
+      )
 
   pub step : ((i : Id) → Closed (G i)) → (adds r w ≡ true → r .seq .0 < last) → IsAccepted (write r w .0) × Holds (write r w .1) (G ⊎w w)
   unfolding write
@@ -250,6 +271,7 @@ module _ (r : Replica) (w : Write) (G : Givens) (a : Holds r G) (g : (i : Id) �
     where
       left : Bool → Written × Replica
       left b = pick b (Accepted Changed, added r w) (Accepted Unchanged, r)
+
       go : (b : Bool) → adds r w ≡ b → IsAccepted (left b .0) × Holds (left b .1) (G ⊎w w)
       go true e = (tt, holds-added r w G a g k)
       go false e = (tt, holds-quiet r w G a g k c e)

@@ -27,7 +27,6 @@ abbrev pub Given : Type 1
 Given = Entry → Type 0
 
 infixl 40 _∪_
-
 abbrev pub _∪_ : Given → List Entry → Given
 _∪_ G es = λ x. In x es ⊎ G x
 
@@ -35,7 +34,6 @@ abbrev pub _⊞_ : Given → Entry → Given
 _⊞_ G e = λ x. (x ≡ e) ⊎ G x
 
 infixl 40 _⊞_
-
 pub record Rep (t : Tree) (G : Given) : Type 0 where
   pub ascending : Ascending orderRev t
   pub at : (r : Revision) → At (find orderRev r t) (λ c. G (r, c))
@@ -45,25 +43,28 @@ Agrees G = (r : Revision) → Agree (λ c. G (r, c))
 
 pub agree-sub : (S R : Set) → ((c : Node) → S c → R c) → Agree R → Agree S
 agree-sub S R f g = record {
-    parents = λ c d p q a b e h. g .parents c d p q (f c a) (f d b) e h;
-    contents = λ c d p q a b e h. g .contents c d p q (f c a) (f d b) e h }
+  parents = λ c d p q a b e h. g .parents c d p q (f c a) (f d b) e h;
+  contents = λ c d p q a b e h. g .contents c d p q (f c a) (f d b) e h;
+}
 
 pub rep-iff : (t : Tree) (G H : Given) → ((x : Entry) → G x → H x) → ((x : Entry) → H x → G x) → Rep t G → Rep t H
 rep-iff t G H f g a = record {
-    ascending = a .ascending;
-    at = λ r. at-iff (find orderRev r t) (λ c. G (r, c)) (λ c. H (r, c)) (λ c. f (r, c)) (λ c. g (r, c)) (a .at r) }
+  ascending = a .ascending;
+  at = λ r. at-iff (find orderRev r t) (λ c. G (r, c)) (λ c. H (r, c)) (λ c. f (r, c)) (λ c. g (r, c)) (a .at r);
+}
 
 hit : (t : Tree) (e : Entry) (G : Given) → Rep t G → Agrees (G ⊞ e)
     → At (find orderRev (e .0) (add t e)) (λ c. (G ⊞ e) (e .0, c))
 hit t e G a g =
     rw (find-same revOrder (e .0) (learn (e .1)) t)
     (at-iff (some (learn (e .1) (find orderRev (e .0) t))) ((λ c. G (e .0, c)) ⊕ (e .1)) (λ c. (G ⊞ e) (e .0, c)) into from
-      (learn-at (find orderRev (e .0) t) (e .1) (λ c. G (e .0, c)) (a .at (e .0))
-        (agree-sub ((λ c. G (e .0, c)) ⊕ (e .1)) (λ c. (G ⊞ e) (e .0, c)) into (g (e .0)))))
+    (learn-at (find orderRev (e .0) t) (e .1) (λ c. G (e .0, c)) (a .at (e .0))
+    (agree-sub ((λ c. G (e .0, c)) ⊕ (e .1)) (λ c. (G ⊞ e) (e .0, c)) into (g (e .0)))))
   where
     into : (c : Node) → ((c ≡ e .1) ⊎ G (e .0, c)) → (G ⊞ e) (e .0, c)
     into c (inl q) = inl (λ i. (e .0, q i))
     into c (inr s) = inr s
+
     from : (c : Node) → (G ⊞ e) (e .0, c) → ((c ≡ e .1) ⊎ G (e .0, c))
     from c (inl q) = inl (ap (λ (x : Entry). x .1) q)
     from c (inr s) = inr s
@@ -80,8 +81,9 @@ miss t e G r a n =
 
 pub rep-add : (t : Tree) (e : Entry) (G : Given) → Rep t G → Agrees (G ⊞ e) → Rep (add t e) (G ⊞ e)
 rep-add t e G a g = record {
-    ascending = ascending-alter revOrder (e .0) (learn (e .1)) t (a .ascending);
-    at = λ r. go r (orderRev r (e .0)) refl }
+  ascending = ascending-alter revOrder (e .0) (learn (e .1)) t (a .ascending);
+  at = λ r. go r (orderRev r (e .0)) refl;
+}
   where
     go : (r : Revision) (o : Order) → orderRev r (e .0) ≡ o → At (find orderRev r (add t e)) (λ c. (G ⊞ e) (r, c))
     go r Less p = miss t e G r a (λ q. less≢equal (sym p ∙ q))
@@ -93,13 +95,14 @@ unfolding addAll
 rep-adds [] t G a g = rep-iff t G (G ∪ []) (λ x s. inr s) (λ x s. elim s [ inl b ↦ absurd b | inr t ↦ t ]) a
 rep-adds (e ∷ es) t G a g =
     rep-iff (addAll es (add t e)) ((G ⊞ e) ∪ es) (G ∪ (e ∷ es)) into from
-      (rep-adds es (add t e) (G ⊞ e) (rep-add t e G a (λ r. agree-sub (λ c. (G ⊞ e) (r, c)) (λ c. (G ∪ (e ∷ es)) (r, c)) (λ c s. into (r, c) (inr s)) (g r)))
-        (λ r. agree-sub (λ c. ((G ⊞ e) ∪ es) (r, c)) (λ c. (G ∪ (e ∷ es)) (r, c)) (λ c. into (r, c)) (g r)))
+    (rep-adds es (add t e) (G ⊞ e) (rep-add t e G a (λ r. agree-sub (λ c. (G ⊞ e) (r, c)) (λ c. (G ∪ (e ∷ es)) (r, c)) (λ c s. into (r, c) (inr s)) (g r)))
+    (λ r. agree-sub (λ c. ((G ⊞ e) ∪ es) (r, c)) (λ c. (G ∪ (e ∷ es)) (r, c)) (λ c. into (r, c)) (g r)))
   where
     into : (x : Entry) → ((G ⊞ e) ∪ es) x → (G ∪ (e ∷ es)) x
     into x (inl m) = inl (inr m)
     into x (inr (inl q)) = inl (inl q)
     into x (inr (inr s)) = inr s
+
     from : (x : Entry) → (G ∪ (e ∷ es)) x → ((G ⊞ e) ∪ es) x
     from x (inl (inl q)) = inr (inl q)
     from x (inl (inr m)) = inl m
@@ -113,4 +116,3 @@ rep-unique x y G a b =
 pub rep-empty : (G : Given) → ((x : Entry) → G x → ⊥) → Rep [] G
 unfolding find
 rep-empty G n = record { ascending = tt; at = λ r c s. n (r, c) s }
-

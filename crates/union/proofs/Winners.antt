@@ -144,9 +144,11 @@ unfolding winner
 winner-top t s a = (there, back)
   where
     there : highest (leaves t) ≡ some a → Top t a
-    there e =
-        (leaf-content t s a (highest-in (leaves t) a e),
-          λ b h l. highest-top (leaves t) a e b (content-leaf t s b h) l)
+    there e = (
+      leaf-content t s a (highest-in (leaves t) a e),
+      λ b h l. highest-top (leaves t) a e b (content-leaf t s b h) l,
+    )
+
     back : Top t a → highest (leaves t) ≡ some a
     back h =
         let i = content-leaf t s a (h .0) in
