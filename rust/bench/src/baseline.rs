@@ -1,8 +1,9 @@
 //! The baseline: the rules as one would write them in Rust without proofs.
 //!
 //! The rows of all documents stand in one arena, sorted by document and revision as in an image, and
-//! a document is a stretch of it. Everything is found by binary search, answers go into lent
-//! buffers, and no call but [`Replica::fresh`], [`Replica::report`] and a clone allocates.
+//! a document is a stretch of it. Documents and revisions are found by binary search; along a path,
+//! the row next to the last one met is tried first. Answers go into lent buffers, and no call but
+//! [`Replica::fresh`], [`Replica::report`] and a clone allocates.
 
 use std::cmp::Ordering;
 use std::fmt::Write as _;
@@ -39,10 +40,17 @@ struct Row {
     content: Option<Content>,
 }
 
+/// An id, filled with zeros. The derived order is the one of the rules: of two ids that fill to the
+/// same bytes the shorter is a prefix of the other.
+#[derive(Clone, Copy, PartialEq, Eq, PartialOrd, Ord)]
+struct Id {
+    filled: [u8; ID_BYTES],
+    length: u8,
+}
+
 #[derive(Clone, Copy)]
 struct Document {
-    id: [u8; ID_BYTES],
-    id_len: usize,
+    id: Id,
     sequence: u32,
     /// Where its rows begin in the arena, and how many there are.
     first: usize,
@@ -60,7 +68,7 @@ pub struct Baseline {
 
 /// A path write that is well-formed.
 struct Offer<'a> {
-    id: &'a [u8],
+    id: Id,
     number: u32,
     path: &'a [Hash],
     content: Content,
@@ -70,6 +78,8 @@ struct Offer<'a> {
 struct Plan {
     /// The document's index, or where it would be inserted.
     document: Result<usize, usize>,
+    /// The newest revision's index in the document, or where it would be inserted.
+    newest: Result<usize, usize>,
     new_revisions: usize,
     /// How many revisions of the path, from the newest, gain something or a child; 0 if none do.
     touched: usize,
@@ -87,10 +97,6 @@ fn refuse_if(condition: bool, number: u32) -> Result<(), Refusal> {
     }
 }
 
-fn check_id(id: &[u8]) -> Result<(), Refusal> {
-    refuse_if(id.is_empty() || id.len() > ID_BYTES, 1)
-}
-
 /// The front of a lent buffer, if the answer fits.
 fn front(out: &mut [u8], length: usize) -> Result<&mut [u8], Refusal> {
     out.get_mut(..length).ok_or(refusal(14))
@@ -100,9 +106,9 @@ fn find(rows: &[Row], revision: &Revision) -> Result<usize, usize> {
     rows.binary_search_by(|row| row.revision.cmp(revision))
 }
 
-/// As [`find`], with the last row tried first: histories are mostly lines, and new revisions mostly
-/// come on top.
-fn find_from_top(rows: &[Row], revision: &Revision) -> Result<usize, usize> {
+/// Finds the parent of the row or gap that stands above these rows. Histories are mostly lines, so
+/// the last row is tried first.
+fn find_next(rows: &[Row], revision: &Revision) -> Result<usize, usize> {
     let Some((last, lower)) = rows.split_last() else {
         return Err(0);
     };
@@ -120,7 +126,7 @@ fn ancestry(rows: &[Row], at: usize) -> impl Iterator<Item = usize> + '_ {
             number: rows[at].revision.number - 1,
             hash: rows[at].parent?,
         };
-        find_from_top(&rows[..at], &parent).ok()
+        find_next(&rows[..at], &parent).ok()
     })
 }
 
@@ -185,11 +191,23 @@ impl Row {
     }
 }
 
-impl Document {
-    fn id(&self) -> &[u8] {
-        &self.id[..self.id_len]
+impl Id {
+    fn new(id: &[u8]) -> Result<Id, Refusal> {
+        refuse_if(id.is_empty() || id.len() > ID_BYTES, 1)?;
+        let mut filled = [0; ID_BYTES];
+        filled[..id.len()].copy_from_slice(id);
+        Ok(Id {
+            filled,
+            length: id.len() as u8,
+        })
     }
 
+    fn bytes(&self) -> &[u8] {
+        &self.filled[..self.length.into()]
+    }
+}
+
+impl Document {
     fn range(&self) -> Range<usize> {
         self.first..self.first + self.rows
     }
@@ -217,22 +235,28 @@ impl Offer<'_> {
 }
 
 impl Baseline {
-    fn find_document(&self, id: &[u8]) -> Result<usize, usize> {
+    fn find_document(&self, id: &Id) -> Result<usize, usize> {
         self.documents
-            .binary_search_by(|document| document.id().cmp(id))
+            .binary_search_by(|document| document.id.cmp(id))
     }
 
     fn rows_of(&self, document: &Document) -> &[Row] {
         &self.rows[document.range()]
     }
 
-    /// The rows of a document that a read asks for.
-    fn read(&self, id: &[u8]) -> Result<&[Row], Refusal> {
-        check_id(id)?;
+    /// The rows of a document; none if it is absent.
+    fn body(&self, id: &Id) -> &[Row] {
         match self.find_document(id) {
-            Ok(at) => Ok(self.rows_of(&self.documents[at])),
-            Err(_) => Err(refusal(12)),
+            Ok(at) => self.rows_of(&self.documents[at]),
+            Err(_) => &[],
         }
+    }
+
+    /// The rows of a document that must be there.
+    fn read(&self, id: &[u8]) -> Result<&[Row], Refusal> {
+        let rows = self.body(&Id::new(id)?);
+        refuse_if(rows.is_empty(), 12)?;
+        Ok(rows)
     }
 
     /// The document with the lowest own sequence above the given one.
@@ -245,42 +269,43 @@ impl Baseline {
 
     /// Decides refusals 4 to 8 in one pass over the path.
     fn plan(&self, offer: &Offer) -> Result<Plan, Refusal> {
-        let document = self.find_document(offer.id);
+        let document = self.find_document(&offer.id);
         let mut rows = document.map_or(&[][..], |at| self.rows_of(&self.documents[at]));
-        let mut plan = Plan {
-            document,
-            new_revisions: 0,
-            touched: 0,
-        };
-        let mut content_differs = false;
+        let newest = find(rows, &offer.revision(0));
+        let content_differs =
+            newest.is_ok_and(|at| rows[at].content.is_some_and(|held| held != offer.content));
+        let mut new_revisions = 0;
+        let mut touched = 0;
+        let mut found = newest;
         for k in 0..offer.path.len() {
-            // What is older than this revision lies below it.
-            rows = match find_from_top(rows, &offer.revision(k)) {
-                Ok(at) => {
-                    let row = &rows[at];
-                    match (row.parent, offer.parent(k)) {
-                        (Some(known), Some(given)) => refuse_if(known != given, 4)?,
-                        (None, Some(_)) => plan.touched = k + 2,
-                        (_, None) => {}
-                    }
-                    if k == 0 {
-                        content_differs = row.content.is_some_and(|held| held != offer.content);
-                    }
-                    &rows[..at]
+            if k > 0 {
+                found = find_next(rows, &offer.revision(k));
+            }
+            match found {
+                Ok(at) => match (rows[at].parent, offer.parent(k)) {
+                    (Some(known), Some(given)) => refuse_if(known != given, 4)?,
+                    (None, Some(_)) => touched = k + 2,
+                    (_, None) => {}
+                },
+                Err(_) => {
+                    new_revisions += 1;
+                    touched = k + 2;
                 }
-                Err(at) => {
-                    plan.new_revisions += 1;
-                    plan.touched = k + 2;
-                    &rows[..at]
-                }
-            };
+            }
+            // What is older lies below.
+            let (Ok(at) | Err(at)) = found;
+            rows = &rows[..at];
         }
-        plan.touched = plan.touched.min(offer.path.len());
         refuse_if(content_differs, 5)?;
         refuse_if(document.is_err() && self.documents.len() == DOCUMENTS, 6)?;
-        refuse_if(self.rows.len() + plan.new_revisions > REVISIONS, 7)?;
-        refuse_if(plan.touched > 0 && self.sequence == u32::MAX, 8)?;
-        Ok(plan)
+        refuse_if(self.rows.len() + new_revisions > REVISIONS, 7)?;
+        refuse_if(touched > 0 && self.sequence == u32::MAX, 8)?;
+        Ok(Plan {
+            document,
+            newest,
+            new_revisions,
+            touched: touched.min(offer.path.len()),
+        })
     }
 
     /// Makes the planned additions.
@@ -289,54 +314,53 @@ impl Baseline {
             self.insert_document(at, offer.id);
             at
         });
+        self.sequence += 1;
         let document = &mut self.documents[index];
         let first = document.first;
-        let mut end = document.range().end;
-        self.sequence += 1;
         document.sequence = self.sequence;
         document.rows += plan.new_revisions;
         for later in &mut self.documents[index + 1..] {
             later.first += plan.new_revisions;
         }
+        let mut found = plan.newest;
         let mut k = 0;
         while k < plan.touched {
-            let rows = &mut self.rows[first..end];
-            match find_from_top(rows, &offer.revision(k)) {
-                Ok(at) => {
-                    let row = &mut rows[at];
-                    row.parent = row.parent.or(offer.parent(k));
-                    if k > 0 {
-                        row.content = None;
+            let (Ok(at) | Err(at)) = found;
+            let place = first + at;
+            if found.is_ok() {
+                let row = &mut self.rows[place];
+                row.parent = row.parent.or(offer.parent(k));
+                if k > 0 {
+                    row.content = None;
+                }
+                k += 1;
+                if k < plan.touched {
+                    found = find_next(&self.rows[first..place], &offer.revision(k));
+                }
+            } else {
+                // New revisions that fall between the same two rows go in together.
+                let lower = &self.rows[first..place];
+                let mut end = k + 1;
+                while end < plan.touched {
+                    found = find_next(lower, &offer.revision(end));
+                    if found != Err(at) {
+                        break;
                     }
-                    end = first + at;
-                    k += 1;
+                    end += 1;
                 }
-                Err(at) => {
-                    // New revisions that fall between the same two rows go in together.
-                    let lower = &rows[..at];
-                    let run = (k + 1..plan.touched)
-                        .take_while(|&k| find_from_top(lower, &offer.revision(k)) == Err(at))
-                        .count();
-                    end = first + at;
-                    let added = (k..=k + run).rev().map(|k| offer.row(k));
-                    self.rows.splice(end..end, added);
-                    k += run + 1;
-                }
+                let added = (k..end).rev().map(|k| offer.row(k));
+                self.rows.splice(place..place, added);
+                k = end;
             }
         }
     }
 
-    fn insert_document(&mut self, at: usize, id: &[u8]) {
-        let mut filled = [0; ID_BYTES];
-        filled[..id.len()].copy_from_slice(id);
+    fn insert_document(&mut self, at: usize, id: Id) {
+        let next = self.documents.get(at);
         let document = Document {
-            id: filled,
-            id_len: id.len(),
+            id,
             sequence: 0,
-            first: self
-                .documents
-                .get(at)
-                .map_or(self.rows.len(), |next| next.first),
+            first: next.map_or(self.rows.len(), |next| next.first),
             rows: 0,
         };
         self.documents.insert(at, document);
@@ -372,7 +396,7 @@ impl Baseline {
             let rows = self.rows_of(document);
             let leaves = leaves(rows).count();
             let Revision { number, hash } = winner(rows).0.revision;
-            put_hex(text, document.id())?;
+            put_hex(text, document.id.bytes())?;
             write!(text, " seq {} winner {number}-", document.sequence)?;
             put_hex(text, &hash)?;
             writeln!(text, " leaves {leaves} conflicts {}", leaves - 1)?;
@@ -417,8 +441,10 @@ impl Replica for Baseline {
         self.documents.clear();
         self.documents
             .extend(image.bodies().map(|(entry, range)| Document {
-                id: field(entry, 1),
-                id_len: entry[0].into(),
+                id: Id {
+                    filled: field(entry, 1),
+                    length: entry[0],
+                },
                 sequence: entry_sequence(entry),
                 first: range.start,
                 rows: range.len(),
@@ -441,8 +467,8 @@ impl Replica for Baseline {
         let entries = contents.as_chunks_mut::<ENTRY_BYTES>().0;
         for (entry, document) in entries.iter_mut().zip(&self.documents) {
             let place = first_row + ROW_BYTES * document.first;
-            entry[0] = document.id_len as u8;
-            entry[1..33].copy_from_slice(&document.id);
+            entry[0] = document.id.length;
+            entry[1..33].copy_from_slice(&document.id.filled);
             entry[33] = 0;
             entry[34..36].copy_from_slice(&(document.rows as u16).to_be_bytes());
             entry[36..40].copy_from_slice(&document.sequence.to_be_bytes());
@@ -462,7 +488,7 @@ impl Replica for Baseline {
         path: &[u8],
         content: Content,
     ) -> Result<bool, Refusal> {
-        check_id(id)?;
+        let id = Id::new(id)?;
         let (path, torn) = path.as_chunks();
         let whole = torn.is_empty() && (1..=PATH_HASHES).contains(&path.len());
         refuse_if(!whole, 2)?;
@@ -482,11 +508,8 @@ impl Replica for Baseline {
         content: Content,
         parent: Option<(u32, Hash)>,
     ) -> Result<u32, Refusal> {
-        check_id(id)?;
-        let rows = match self.find_document(id) {
-            Ok(at) => self.rows_of(&self.documents[at]),
-            Err(_) => &[],
-        };
+        let id = Id::new(id)?;
+        let rows = self.body(&id);
         let parent = match parent {
             Some((number, hash)) => {
                 let revision = Revision { number, hash };
@@ -549,11 +572,11 @@ impl Replica for Baseline {
     }
 
     fn missing(&self, id: &[u8], asked: &[u8], out: &mut [u8]) -> Result<u32, Refusal> {
-        check_id(id)?;
+        let id = Id::new(id)?;
         let (asked, torn) = asked.as_chunks::<ASKED_BYTES>();
         refuse_if(!torn.is_empty(), 15)?;
         let out = front(out, asked.len())?;
-        let rows = self.read(id).unwrap_or_default();
+        let rows = self.body(&id);
         for (out, asked) in out.iter_mut().zip(asked) {
             let revision = Revision {
                 number: u32::from_be_bytes(field(asked, 0)),
@@ -568,10 +591,11 @@ impl Replica for Baseline {
         let Some(document) = self.next_changed(after) else {
             return Ok(None);
         };
-        front(out, document.id_len)?.copy_from_slice(document.id());
+        let id = document.id.bytes();
+        front(out, id.len())?.copy_from_slice(id);
         let rows = self.rows_of(document);
         Ok(Some(Change {
-            id_len: document.id_len as u32,
+            id_len: id.len() as u32,
             seq: document.sequence,
             leaves: leaves(rows).count() as u32,
             deleted: winner(rows).1 == Content::Deleted,
@@ -594,7 +618,7 @@ impl Replica for Baseline {
                     length += 1;
                 }
                 let offered = self.offer(&Offer {
-                    id: document.id(),
+                    id: document.id,
                     number: leaf.revision.number,
                     path: &path[..length],
                     content,
@@ -807,7 +831,7 @@ impl<'a> Image<'a> {
     }
 }
 
-/// The row with this key, with the last one tried first as in [`find_from_top`].
+/// The row with this key, with the last one tried first as in [`find_next`].
 fn find_key(rows: &[[u8; ROW_BYTES]], key: &[u8; ASKED_BYTES]) -> Result<usize, usize> {
     match rows.split_last() {
         Some((last, lower)) if row_key(last) == *key => Ok(lower.len()),
