@@ -1,0 +1,139 @@
+-- Laws of decimal numbers and hex. Assumes nothing.
+use mathlib.Core.Path.{_≡_, refl, sym, ap, _∙_}
+use mathlib.Core.Bool.{Bool, true, false}
+use mathlib.Core.List.{List, [], _∷_, _++_, append-assoc}
+use mathlib.Core.Logic.{_⊎_, inl, inr}
+use Prim.Native.Nat.{ℕ, zero, suc, _+_, _*_, _/_, _%_, _≤_, _<_}
+use native.Mathlib.Omega.{arith}
+use native.Mathlib.Numerals.{add-one}
+use lib.Dec.{eqb, ltb}
+use lib.ListN.{length, take, drop, getD, set, length-append, length-take}
+use Rattle.octets.specs.Splice.{splice}
+use Rattle.octets.proofs.SpliceLaws.{splice-behind, splice-none, length-splice}
+use Rattle.text.specs.Text.{Put}
+use lib.Seq.{take-suc}
+use borrow.Author.Tests.{eq-eqb, ne-eqb, eqb-true, eqb-false}
+use Rattle.rules.specs.Choice.{pick}
+use Rattle.rules.specs.Report.{digits, trim, decimal, hexDigit, hex}
+
+-- a number of at most n decimal digits
+Below : ℕ → ℕ → Type 0
+Below zero v = v ≡ 0
+Below (suc n) v = Below n (v / 10)
+
+-- one digit more is a zero in front
+digits-pad : (n v : ℕ) → Below n v → digits (suc n) v ≡ 48 ∷ digits n v
+unfolding digits Below
+digits-pad zero v b = rw b refl
+digits-pad (suc n) v b = ap (λ (l : List ℕ). l ++ ((48 + v % 10) ∷ [])) (digits-pad n (v / 10) b)
+
+-- some digit is not zero
+NonZero : List ℕ → Type 0
+NonZero [] = ⊥
+NonZero (c ∷ cs) = (c ≡ 48 → ⊥) ⊎ NonZero cs
+
+nonzero-left : (a b : List ℕ) → NonZero a → NonZero (a ++ b)
+unfolding NonZero
+nonzero-left [] b h = absurd h
+nonzero-left (c ∷ cs) b (inl h) = inl h
+nonzero-left (c ∷ cs) b (inr h) = inr (nonzero-left cs b h)
+
+nonzero-right : (a b : List ℕ) → NonZero b → NonZero (a ++ b)
+unfolding NonZero
+nonzero-right [] b h = h
+nonzero-right (c ∷ cs) b h = inr (nonzero-right cs b h)
+
+digits-nonzero : (n v : ℕ) → 0 < v → Below n v → NonZero (digits n v)
+unfolding digits Below NonZero
+digits-nonzero zero v h b = absurd (omega arith)
+digits-nonzero (suc n) v h b = go (v / 10) refl (λ k. digits-nonzero n (v / 10) k b)
+  where
+    go : (u : ℕ) → v / 10 ≡ u → (0 < v / 10 → NonZero (digits n (v / 10))) → NonZero (digits n (v / 10) ++ ((48 + v % 10) ∷ []))
+    go zero e f = nonzero-right (digits n (v / 10)) ((48 + v % 10) ∷ []) (inl (λ z. omega arith))
+    go (suc u) e f = nonzero-left (digits n (v / 10)) ((48 + v % 10) ∷ []) (f (omega arith))
+
+trim-more : (xs : List ℕ) (c : ℕ) → NonZero xs → trim (xs ++ (c ∷ [])) ≡ trim xs ++ (c ∷ [])
+unfolding trim NonZero
+trim-more [] c h = absurd h
+trim-more (x ∷ []) c (inl h) = rw (ne-eqb x 48 h) refl
+trim-more (x ∷ []) c (inr h) = absurd h
+trim-more (x ∷ y ∷ ys) c h = go (eqb x 48) refl (λ z. trim-more (y ∷ ys) c z) h
+  where
+    go : (b : Bool) → eqb x 48 ≡ b → (NonZero (y ∷ ys) → trim ((y ∷ ys) ++ (c ∷ [])) ≡ trim (y ∷ ys) ++ (c ∷ []))
+        → NonZero (x ∷ y ∷ ys) → trim ((x ∷ y ∷ ys) ++ (c ∷ [])) ≡ trim (x ∷ y ∷ ys) ++ (c ∷ [])
+    go true e ih (inl z) = absurd (z (eqb-true x 48 e))
+    go true e ih (inr z) = rw e (ih z)
+    go false e ih z = rw e refl
+
+-- a number below ten is its digit
+pub decimal-digit : (v : ℕ) → v < 10 → decimal v ≡ (48 + v) ∷ []
+unfolding decimal digits trim
+decimal-digit v h = let e : v / 10 ≡ 0 = omega arith in let m : v % 10 ≡ v = omega arith in rw (e, m) refl
+
+-- any other is the decimal of a tenth of it, and then its last digit
+pub decimal-more : (v : ℕ) → 10 ≤ v → v < 4294967296 → decimal v ≡ decimal (v / 10) ++ ((48 + v % 10) ∷ [])
+unfolding decimal digits trim
+decimal-more v h k =
+    trim-more (digits 9 (v / 10)) (48 + v % 10) (digits-nonzero 9 (v / 10) (omega arith) below)
+    ∙ ap (λ (l : List ℕ). l ++ ((48 + v % 10) ∷ [])) (ap trim (sym (digits-pad 9 (v / 10) below)))
+  where
+    below : Below 9 (v / 10)
+    below = unfold Below in omega arith
+
+hex-more : (bs : List ℕ) (b : ℕ) → hex (bs ++ (b ∷ [])) ≡ hex bs ++ (hexDigit (b / 16) ∷ hexDigit (b % 16) ∷ [])
+unfolding hex
+hex-more [] b = refl
+hex-more (c ∷ bs) b = ap (λ (l : List ℕ). hexDigit (c / 16) ∷ hexDigit (c % 16) ∷ l) (hex-more bs b)
+
+-- the hex of one byte more
+pub hex-take : (bs : List ℕ) (i : ℕ) → i < length bs
+    → hex (take (i + 1) bs) ≡ (hex (take i bs) ++ (hexDigit (getD bs i 0 / 16) ∷ [])) ++ (hexDigit (getD bs i 0 % 16) ∷ [])
+hex-take bs i h = rw (add-one, take-suc bs i 0) (hex-more (take i bs) (getD bs i 0) ∙ sym (append-assoc (hex (take i bs)) _ _))
+
+pub length-hex : (bs : List ℕ) → length (hex bs) ≡ 2 * length bs
+unfolding hex
+length-hex [] = refl
+length-hex (b ∷ bs) = let e = length-hex bs in omega arith
+
+length-hex-take : (bs : List ℕ) (i : ℕ) → i ≤ length bs → length (hex (take i bs)) ≡ 2 * i
+length-hex-take bs i h = length-hex (take i bs) ∙ simp length-take (omega arith)
+
+-- one turn of the loop that writes hex
+pub hex-step : (s₀ s bs : List ℕ) (at next i x y : ℕ) → i < length bs → next ≡ at + 2 * i → at + 2 * length bs ≤ length s₀
+    → s ≡ splice s₀ at (hex (take i bs)) → x ≡ hexDigit (getD bs i 0 / 16) → y ≡ hexDigit (getD bs i 0 % 16)
+    → set (set s next x) (next + 1) y ≡ splice s₀ at (hex (take (i + 1) bs))
+hex-step s₀ s bs at next i x y h n f e p q =
+    let l = length-hex-take bs i (omega arith) in
+    let m : length (hex (take i bs) ++ (x ∷ [])) ≡ 2 * i + 1 = simp length-append (omega arith) in
+    rw (e, splice-behind s₀ at next x (hex (take i bs)) (omega arith) (omega arith), splice-behind s₀ at (next + 1) y (hex (take i bs) ++ (x ∷ [])) (omega arith) (omega arith), p, q)
+    (ap (splice s₀ at) (sym (hex-take bs i h)))
+
+-- ---- the digits as they are written
+
+pub length-digit : (v : ℕ) → v < 10 → length (decimal v) ≡ 1
+length-digit v h = rw (decimal-digit v h) refl
+
+pub length-more : (v : ℕ) → 10 ≤ v → v < 4294967296 → length (decimal v) ≡ length (decimal (v / 10)) + 1
+length-more v h k = rw (decimal-more v h k) (simp length-append (omega arith))
+
+pub put-digit : (s : List ℕ) (at v : ℕ) → v < 10 → at < length s → Put (decimal v) s at (at + 1) (set s at (48 + v))
+put-digit s at v h k = record {
+  is = ap (λ (l : List ℕ). set l at (48 + v)) (sym (splice-none s at)) ∙ (splice-behind s at at (48 + v) [] (omega arith) k ∙ ap (splice s at) (sym (decimal-digit v h)));
+  ends = rw (decimal-digit v h) refl;
+}
+
+pub put-last : (s s′ : List ℕ) (at n v : ℕ) → 10 ≤ v → v < 4294967296 → at + length (decimal v) ≤ length s → Put (decimal (v / 10)) s at n s′
+    → Put (decimal v) s at (n + 1) (set s′ n (48 + v % 10))
+put-last s s′ at n v h k f p =
+    let l = length-more v h k in
+    let e = p .ends in
+    record {
+      is = ap (λ (u : List ℕ). set u n (48 + v % 10)) (p .is) ∙ (splice-behind s at n (48 + v % 10) (decimal (v / 10)) e (omega arith) ∙ ap (splice s at) (sym (decimal-more v h k)));
+      ends = omega arith;
+    }
+
+pub in-last : (s s′ : List ℕ) (at n v : ℕ) → 10 ≤ v → v < 4294967296 → at + length (decimal v) ≤ length s → Put (decimal (v / 10)) s at n s′ → n < length s′
+in-last s s′ at n v h k f p =
+    let l = length-more v h k in
+    let e = p .ends in
+    let m : length s′ ≡ length s = ap length (p .is) ∙ length-splice s at (decimal (v / 10)) (omega arith) in omega arith

@@ -1,0 +1,59 @@
+// Text: words, decimal numbers and hex written into a slice that the caller lends.
+// Each function answers the place after what it wrote. It uses the crates rules and octets.
+use octets::run::copy_in;
+ghost use mathlib.Core.Path.{_≡_};
+ghost use Prim.Native.Nat.{ℕ, _+_, _*_, _<_, _≤_};
+ghost use lib.ListN.{length};
+ghost use Rattle.rules.specs.Report.{decimal, hex, hexDigit};
+ghost use Rattle.text.specs.Text.{Put};
+
+// Writes a word.
+pub fn put_word(s: &mut [u8], at: usize, word: &[u8]) -> usize
+    requires { ⌜ at + length (now word) ≤ length (now s) ⌝ }
+    ensures { λ r. ⌜ Put (now (word .entry)) (now (s .entry)) at r (now (s .exit)) ⌝ }
+{
+    copy_in(s, at, word);
+    at + word.len()
+}
+
+// Writes a number in decimal: the digits before the last, then the last.
+pub fn put_decimal(s: &mut [u8], at: usize, v: u32) -> usize
+    requires { ⌜ at + length (decimal v) ≤ length (now s) ⌝ }
+    ensures { λ r. ⌜ Put (decimal v) (now (s .entry)) at r (now (s .exit)) ⌝ }
+{
+    if v < 10 {
+        s[at] = (48 + v) as u8;
+        return at + 1;
+    }
+    let next = put_decimal(s, at, v / 10);
+    s[next] = (48 + v % 10) as u8;
+    next + 1
+}
+
+fn hex_digit(n: u8) -> u8
+    requires { ⌜ n < 16 ⌝ }
+    ensures { λ r. ⌜ r ≡ hexDigit n ⌝ }
+{
+    if n < 10 {
+        return 48 + n;
+    }
+    87 + n
+}
+
+// Writes bytes as hex, two digits each.
+pub fn put_hex(s: &mut [u8], at: usize, bytes: &[u8]) -> usize
+    requires { ⌜ at + 2 * length (now bytes) ≤ length (now s) ⌝ }
+    ensures { λ r. ⌜ Put (hex (now (bytes .entry))) (now (s .entry)) at r (now (s .exit)) ⌝ }
+{
+    let mut next = at;
+    let mut i = 0;
+    while i < bytes.len() {
+        let b = bytes[i];
+        s[next] = hex_digit(b / 16);
+        next += 1;
+        s[next] = hex_digit(b % 16);
+        next += 1;
+        i += 1;
+    }
+    next
+}
