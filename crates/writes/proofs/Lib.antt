@@ -1,0 +1,3 @@
+-- Laws of the path write.
+pub mod PathLaws
+pub mod AddLaws
