@@ -1,3 +1,5 @@
 -- Laws of the path write.
 pub mod PathLaws
 pub mod AddLaws
+pub mod PlanLaws
+pub mod ReachLaws

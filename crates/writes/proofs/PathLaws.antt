@@ -28,7 +28,7 @@ length-along n [] c = refl
 length-along n (h ∷ hs) c = ap suc (length-along (pred n) hs none)
 
 -- the content given k hashes after the newest
-abbrev later : ℕ → Option Content → Option Content
+abbrev pub later : ℕ → Option Content → Option Content
 later zero c = c
 later (suc k) c = none
 
@@ -39,7 +39,7 @@ later-none (suc k) = refl
 pred-sub : (n k : ℕ) → pred n - k ≡ n - suc k
 pred-sub n k = let e = sub-one n in omega arith
 
-drop-along : (k n : ℕ) (hs : List Hash) (c : Option Content) → drop k (along n hs c) ≡ along (n - k) (drop k hs) (later k c)
+pub drop-along : (k n : ℕ) (hs : List Hash) (c : Option Content) → drop k (along n hs c) ≡ along (n - k) (drop k hs) (later k c)
 unfolding along
 drop-along zero n hs c = let z : n ≡ n - 0 = omega arith in ap (λ (m : ℕ). along m hs c) z
 drop-along (suc k) n [] c = refl
