@@ -3,3 +3,4 @@ pub mod PathLaws
 pub mod AddLaws
 pub mod PlanLaws
 pub mod ReachLaws
+pub mod EditLaws
