@@ -1,0 +1,6 @@
+-- Laws of the path write.
+pub mod PathLaws
+pub mod AddLaws
+pub mod PlanLaws
+pub mod ReachLaws
+pub mod EditLaws

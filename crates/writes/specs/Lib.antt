@@ -1,0 +1,4 @@
+-- What the promises of this crate cite.
+pub mod Path
+pub mod Plan
+pub mod Edit
