@@ -40,9 +40,8 @@ struct Row {
     content: Option<Content>,
 }
 
-/// An id, filled with zeros. The derived order is the one of the rules: of two ids that fill to the
-/// same bytes the shorter is a prefix of the other.
-#[derive(Clone, Copy, PartialEq, Eq, PartialOrd, Ord)]
+/// An id, filled with zeros.
+#[derive(Clone, Copy)]
 struct Id {
     filled: [u8; ID_BYTES],
     length: u8,
@@ -68,7 +67,7 @@ pub struct Baseline {
 
 /// A path write that is well-formed.
 struct Offer<'a> {
-    id: Id,
+    id: &'a [u8],
     number: u32,
     path: &'a [Hash],
     content: Content,
@@ -78,6 +77,11 @@ struct Offer<'a> {
 struct Plan {
     /// The document's index, or where it would be inserted.
     document: Result<usize, usize>,
+    gains: Gains,
+}
+
+/// What a document would gain by an offer.
+struct Gains {
     /// The newest revision's index in the document, or where it would be inserted.
     newest: Result<usize, usize>,
     new_revisions: usize,
@@ -95,6 +99,10 @@ fn refuse_if(condition: bool, number: u32) -> Result<(), Refusal> {
     } else {
         Ok(())
     }
+}
+
+fn check_id(id: &[u8]) -> Result<(), Refusal> {
+    refuse_if(id.is_empty() || id.len() > ID_BYTES, 1)
 }
 
 /// The front of a lent buffer, if the answer fits.
@@ -177,11 +185,8 @@ impl Row {
     /// Reads a row that was judged sound.
     fn decode(bytes: &[u8; ROW_BYTES]) -> Row {
         Row {
-            revision: Revision {
-                number: u32::from_be_bytes(field(bytes, 0)),
-                hash: field(bytes, 4),
-            },
-            parent: (bytes[21] == 1).then(|| field(bytes, 24)),
+            revision: revision(bytes),
+            parent: parent(bytes).map(|parent| parent.hash),
             content: match bytes[20] {
                 0 => None,
                 1 => Some(Content::Live(u64::from_be_bytes(field(bytes, 40)))),
@@ -192,14 +197,13 @@ impl Row {
 }
 
 impl Id {
-    fn new(id: &[u8]) -> Result<Id, Refusal> {
-        refuse_if(id.is_empty() || id.len() > ID_BYTES, 1)?;
+    fn new(id: &[u8]) -> Id {
         let mut filled = [0; ID_BYTES];
         filled[..id.len()].copy_from_slice(id);
-        Ok(Id {
+        Id {
             filled,
             length: id.len() as u8,
-        })
+        }
     }
 
     fn bytes(&self) -> &[u8] {
@@ -232,57 +236,21 @@ impl Offer<'_> {
             content: (k == 0).then_some(self.content),
         }
     }
-}
 
-impl Baseline {
-    fn find_document(&self, id: &Id) -> Result<usize, usize> {
-        self.documents
-            .binary_search_by(|document| document.id.cmp(id))
-    }
-
-    fn rows_of(&self, document: &Document) -> &[Row] {
-        &self.rows[document.range()]
-    }
-
-    /// The rows of a document; none if it is absent.
-    fn body(&self, id: &Id) -> &[Row] {
-        match self.find_document(id) {
-            Ok(at) => self.rows_of(&self.documents[at]),
-            Err(_) => &[],
-        }
-    }
-
-    /// The rows of a document that must be there.
-    fn read(&self, id: &[u8]) -> Result<&[Row], Refusal> {
-        let rows = self.body(&Id::new(id)?);
-        refuse_if(rows.is_empty(), 12)?;
-        Ok(rows)
-    }
-
-    /// The document with the lowest own sequence above the given one.
-    fn next_changed(&self, after: u32) -> Option<&Document> {
-        self.documents
-            .iter()
-            .filter(|document| document.sequence > after)
-            .min_by_key(|document| document.sequence)
-    }
-
-    /// Decides refusals 4 to 8 in one pass over the path.
-    fn plan(&self, offer: &Offer) -> Result<Plan, Refusal> {
-        let document = self.find_document(&offer.id);
-        let mut rows = document.map_or(&[][..], |at| self.rows_of(&self.documents[at]));
-        let newest = find(rows, &offer.revision(0));
+    /// What a document of these rows would gain. Decides refusals 4 and 5 in one pass over the path.
+    fn gains(&self, mut rows: &[Row]) -> Result<Gains, Refusal> {
+        let newest = find(rows, &self.revision(0));
         let content_differs =
-            newest.is_ok_and(|at| rows[at].content.is_some_and(|held| held != offer.content));
+            newest.is_ok_and(|at| rows[at].content.is_some_and(|held| held != self.content));
         let mut new_revisions = 0;
         let mut touched = 0;
         let mut found = newest;
-        for k in 0..offer.path.len() {
+        for k in 0..self.path.len() {
             if k > 0 {
-                found = find_next(rows, &offer.revision(k));
+                found = find_next(rows, &self.revision(k));
             }
             match found {
-                Ok(at) => match (rows[at].parent, offer.parent(k)) {
+                Ok(at) => match (rows[at].parent, self.parent(k)) {
                     (Some(known), Some(given)) => refuse_if(known != given, 4)?,
                     (None, Some(_)) => touched = k + 2,
                     (_, None) => {}
@@ -297,19 +265,68 @@ impl Baseline {
             rows = &rows[..at];
         }
         refuse_if(content_differs, 5)?;
-        refuse_if(document.is_err() && self.documents.len() == DOCUMENTS, 6)?;
-        refuse_if(self.rows.len() + new_revisions > REVISIONS, 7)?;
-        refuse_if(touched > 0 && self.sequence == u32::MAX, 8)?;
-        Ok(Plan {
-            document,
+        Ok(Gains {
             newest,
             new_revisions,
-            touched: touched.min(offer.path.len()),
+            touched: touched.min(self.path.len()),
         })
+    }
+}
+
+impl Baseline {
+    fn find_document(&self, id: &[u8]) -> Result<usize, usize> {
+        self.documents
+            .binary_search_by(|document| document.id.bytes().cmp(id))
+    }
+
+    fn rows_of(&self, document: &Document) -> &[Row] {
+        &self.rows[document.range()]
+    }
+
+    /// The rows of a document; none if it is absent.
+    fn body(&self, id: &[u8]) -> &[Row] {
+        match self.find_document(id) {
+            Ok(at) => self.rows_of(&self.documents[at]),
+            Err(_) => &[],
+        }
+    }
+
+    /// The rows of a document that must be there.
+    fn read(&self, id: &[u8]) -> Result<&[Row], Refusal> {
+        check_id(id)?;
+        let rows = self.body(id);
+        refuse_if(rows.is_empty(), 12)?;
+        Ok(rows)
+    }
+
+    /// The document with the lowest own sequence above the given one.
+    fn next_changed(&self, after: u32) -> Option<&Document> {
+        self.documents
+            .iter()
+            .filter(|document| document.sequence > after)
+            .min_by_key(|document| document.sequence)
+    }
+
+    /// Decides refusals 4 to 8.
+    fn plan(&self, offer: &Offer) -> Result<Plan, Refusal> {
+        let document = self.find_document(offer.id);
+        let gains = match document {
+            Ok(at) => offer.gains(self.rows_of(&self.documents[at]))?,
+            Err(_) => Gains {
+                newest: Err(0),
+                new_revisions: offer.path.len(),
+                touched: offer.path.len(),
+            },
+        };
+        refuse_if(document.is_err() && self.documents.len() == DOCUMENTS, 6)?;
+        refuse_if(self.rows.len() + gains.new_revisions > REVISIONS, 7)?;
+        refuse_if(gains.touched > 0 && self.sequence == u32::MAX, 8)?;
+        Ok(Plan { document, gains })
     }
 
     /// Makes the planned additions.
     fn apply(&mut self, plan: &Plan, offer: &Offer) {
+        let gains = &plan.gains;
         let index = plan.document.unwrap_or_else(|at| {
             self.insert_document(at, offer.id);
             at
@@ -318,13 +335,13 @@ impl Baseline {
         let document = &mut self.documents[index];
         let first = document.first;
         document.sequence = self.sequence;
-        document.rows += plan.new_revisions;
+        document.rows += gains.new_revisions;
         for later in &mut self.documents[index + 1..] {
-            later.first += plan.new_revisions;
+            later.first += gains.new_revisions;
         }
-        let mut found = plan.newest;
+        let mut found = gains.newest;
         let mut k = 0;
-        while k < plan.touched {
+        while k < gains.touched {
             let (Ok(at) | Err(at)) = found;
             let place = first + at;
             if found.is_ok() {
@@ -334,14 +351,14 @@ impl Baseline {
                     row.content = None;
                 }
                 k += 1;
-                if k < plan.touched {
+                if k < gains.touched {
                     found = find_next(&self.rows[first..place], &offer.revision(k));
                 }
             } else {
                 // New revisions that fall between the same two rows go in together.
                 let lower = &self.rows[first..place];
                 let mut end = k + 1;
-                while end < plan.touched {
+                while end < gains.touched {
                     found = find_next(lower, &offer.revision(end));
                     if found != Err(at) {
                         break;
@@ -355,10 +372,10 @@ impl Baseline {
         }
     }
 
-    fn insert_document(&mut self, at: usize, id: Id) {
+    fn insert_document(&mut self, at: usize, id: &[u8]) {
         let next = self.documents.get(at);
         let document = Document {
-            id,
+            id: Id::new(id),
             sequence: 0,
             first: next.map_or(self.rows.len(), |next| next.first),
             rows: 0,
@@ -368,7 +385,7 @@ impl Baseline {
 
     fn offer(&mut self, offer: &Offer) -> Result<bool, Refusal> {
         let plan = self.plan(offer)?;
-        let changed = plan.touched > 0;
+        let changed = plan.gains.touched > 0;
         if changed {
             self.apply(&plan, offer);
         }
@@ -488,7 +505,7 @@ impl Replica for Baseline {
         path: &[u8],
         content: Content,
     ) -> Result<bool, Refusal> {
-        let id = Id::new(id)?;
+        check_id(id)?;
         let (path, torn) = path.as_chunks();
         let whole = torn.is_empty() && (1..=PATH_HASHES).contains(&path.len());
         refuse_if(!whole, 2)?;
@@ -508,8 +525,8 @@ impl Replica for Baseline {
         content: Content,
         parent: Option<(u32, Hash)>,
     ) -> Result<u32, Refusal> {
-        let id = Id::new(id)?;
-        let rows = self.body(&id);
+        check_id(id)?;
+        let rows = self.body(id);
         let parent = match parent {
             Some((number, hash)) => {
                 let revision = Revision { number, hash };
@@ -572,11 +589,11 @@ impl Replica for Baseline {
     }
 
     fn missing(&self, id: &[u8], asked: &[u8], out: &mut [u8]) -> Result<u32, Refusal> {
-        let id = Id::new(id)?;
+        check_id(id)?;
         let (asked, torn) = asked.as_chunks::<ASKED_BYTES>();
         refuse_if(!torn.is_empty(), 15)?;
         let out = front(out, asked.len())?;
-        let rows = self.body(&id);
+        let rows = self.body(id);
         for (out, asked) in out.iter_mut().zip(asked) {
             let revision = Revision {
                 number: u32::from_be_bytes(field(asked, 0)),
@@ -618,7 +635,7 @@ impl Replica for Baseline {
                     length += 1;
                 }
                 let offered = self.offer(&Offer {
-                    id: document.id,
+                    id: document.id.bytes(),
                     number: leaf.revision.number,
                     path: &path[..length],
                     content,
@@ -672,19 +689,18 @@ fn entry_sequence(entry: &[u8; ENTRY_BYTES]) -> u32 {
     u32::from_be_bytes(field(entry, 36))
 }
 
-/// A row's number and hash, whose order as bytes is that of revisions.
-fn row_key(row: &[u8; ROW_BYTES]) -> [u8; ASKED_BYTES] {
-    field(row, 0)
+fn revision(row: &[u8; ROW_BYTES]) -> Revision {
+    Revision {
+        number: u32::from_be_bytes(field(row, 0)),
+        hash: field(row, 4),
+    }
 }
 
-/// The key of a row's parent, if it is known.
-fn parent_key(row: &[u8; ROW_BYTES]) -> Option<[u8; ASKED_BYTES]> {
-    (row[21] == 1).then(|| {
-        let number = u32::from_be_bytes(field(row, 0)) - 1;
-        let mut key = [0; ASKED_BYTES];
-        key[..4].copy_from_slice(&number.to_be_bytes());
-        key[4..].copy_from_slice(&row[24..40]);
-        key
+/// A row's parent, if it is known; the row is sound, so its number is above 1.
+fn parent(row: &[u8; ROW_BYTES]) -> Option<Revision> {
+    (row[21] == 1).then(|| Revision {
+        number: u32::from_be_bytes(field(row, 0)) - 1,
+        hash: field(row, 24),
     })
 }
 
@@ -793,14 +809,13 @@ impl<'a> Image<'a> {
 
     fn judge_rows(&self) -> Result<(), usize> {
         for (_, range) in self.bodies() {
-            // Number 0 is no revision's, so this is below every sound row.
-            let mut before = [0; ASKED_BYTES];
+            let mut before = None;
             for i in range {
-                let key = row_key(&self.rows[i]);
-                if !row_is_sound(&self.rows[i]) || key <= before {
+                let revision = Some(revision(&self.rows[i]));
+                if !row_is_sound(&self.rows[i]) || revision <= before {
                     return Err(i);
                 }
-                before = key;
+                before = revision;
             }
         }
         Ok(())
@@ -812,10 +827,10 @@ impl<'a> Image<'a> {
             let mut first_bad = None;
             let rows = &self.rows[range.clone()];
             for (i, row) in rows.iter().enumerate() {
-                let Some(parent) = parent_key(row) else {
+                let Some(parent) = parent(row) else {
                     continue;
                 };
-                match find_key(&rows[..i], &parent) {
+                match rows[..i].binary_search_by(|row| revision(row).cmp(&parent)) {
                     Ok(at) => has_child[range.start + at] = true,
                     Err(_) => first_bad = first_bad.or(Some(range.start + i)),
                 }
@@ -828,13 +843,5 @@ impl<'a> Image<'a> {
             }
         }
         Ok(())
-    }
-}
-
-/// The row with this key, with the last one tried first as in [`find_next`].
-fn find_key(rows: &[[u8; ROW_BYTES]], key: &[u8; ASKED_BYTES]) -> Result<usize, usize> {
-    match rows.split_last() {
-        Some((last, lower)) if row_key(last) == *key => Ok(lower.len()),
-        _ => rows.binary_search_by(|row| row_key(row).cmp(key)),
     }
 }

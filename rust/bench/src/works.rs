@@ -156,7 +156,7 @@ pub fn process<'a>(program: &'a Path, image: &'a Path) -> std::io::Result<Side<'
 
 /// Copies so many bytes.
 pub fn memcpy<'a>(bytes: usize) -> Side<'a> {
-    let from = vec![0x5a; bytes];
+    let from = vec![0x5a_u8; bytes];
     let mut to = vec![0; bytes];
     Side {
         outcome: Vec::new(),
