@@ -6,7 +6,7 @@
 //! cargo run --release -p refile-bench -- 0.2     # another number of seconds
 //! ```
 //!
-//! `REFILE_CHECK` names the proved check program if it isn't at target/bin/check.
+//! `REFILE_CHECK` names the proved check program if it isn't at target/bin/check_main.
 
 mod data;
 mod measure;
@@ -74,7 +74,8 @@ impl Bench {
         let bushes = data::bushes(15).layers.concat();
 
         println!(
-            "| Work | library | baseline | memcpy | byte sum | ratio | goal | met |\n\
+            "| Work | library, min / median | baseline, min / median | memcpy | byte sum | ratio | \
+             goal | met |\n\
              |---|---|---|---|---|---|---|---|"
         );
         self.row(
@@ -318,11 +319,11 @@ fn asked(mixed: &[u8]) -> Vec<u8> {
 fn check_programs() -> io::Result<(PathBuf, PathBuf)> {
     let top = Path::new(env!("CARGO_MANIFEST_DIR")).ancestors().nth(2);
     let top = top.expect("the package is at rust/bench");
-    let proved =
-        env::var_os("REFILE_CHECK").map_or_else(|| top.join("target/bin/check"), PathBuf::from);
+    let proved = env::var_os("REFILE_CHECK")
+        .map_or_else(|| top.join("target/bin/check_main"), PathBuf::from);
     if !proved.is_file() {
         return Err(io::Error::other(
-            "there is no check program; run `rt check` at the top, or set REFILE_CHECK",
+            "there is no check program; run `rt check check_main` at the top, or set REFILE_CHECK",
         ));
     }
     // `cargo run` builds only the program that it runs.

@@ -2,11 +2,13 @@
 //! every lent buffer must be the same.
 //!
 //! `REFILE_LONG=50 cargo test --release -p refile --test differential` runs fifty times as many
-//! cases. A difference prints its scenario in the form that the model's `replay` reads.
+//! cases. A difference prints its scenario; `REFILE_SCENARIO=FILE`, with the scenario in the file,
+//! replays it here, and the model's `replay` prints what the model makes of it.
 
 mod linked;
 
 use std::env;
+use std::fs;
 use std::ops::Range;
 
 use linked::Linked;
@@ -54,6 +56,16 @@ fn images_sound_and_damaged() {
 fn traps() {
     for (name, image) in images::traps() {
         same(name, harness::check_image::<Linked, Model>(&image));
+    }
+}
+
+/// Replays the scenario in the file that `REFILE_SCENARIO` names, if it is set.
+#[test]
+fn stored_scenario() {
+    if let Ok(file) = env::var("REFILE_SCENARIO") {
+        let text = fs::read_to_string(&file).expect("REFILE_SCENARIO names a file");
+        let scenario = text.parse().expect("the file holds a scenario");
+        same(&file, harness::run_scenario::<Linked, Model>(&scenario));
     }
 }
 

@@ -1,0 +1,319 @@
+//! The house refusals of the C interface, which the wrapper never provokes: what the boundary can get
+//! and the rules have no number for. They come before all others, in the order of their numbers, and
+//! leave every buffer.
+
+use refile::REPLICA_BYTES;
+
+#[allow(dead_code)]
+#[path = "../src/sys.rs"]
+mod sys;
+
+const BAD_REPLICA: u32 = 100;
+const BAD_KIND: u32 = 101;
+const BAD_LABEL: u32 = 102;
+const BAD_FLAG: u32 = 103;
+const BAD_HASH: u32 = 104;
+const BAD_NO_PARENT: u32 = 105;
+const BAD_ANSWER: u32 = 106;
+
+const LIVE: u32 = 1;
+const DELETED: u32 = 2;
+
+const HASH: [u8; 16] = [0x20; 16];
+const NONE: &[u8] = &[];
+
+/// A replica that holds one document, "lot".
+fn replica() -> Vec<u8> {
+    let mut replica = vec![0; REPLICA_BYTES];
+    // SAFETY: the buffer has the size of a replica, and the call makes it one.
+    assert_eq!(
+        unsafe { sys::refile_fresh(replica.as_mut_ptr(), replica.len()) },
+        0
+    );
+    assert_eq!(write(&mut replica, b"lot", &HASH, LIVE, 7), (0, 1));
+    replica
+}
+
+/// A refusal and a value.
+type Answer = (u32, u32);
+
+fn answer(result: u64) -> Answer {
+    ((result >> 32) as u32, result as u32)
+}
+
+// The calls with slices for pointers and lengths. A buffer of another size than a replica's is
+// refused before it is read, so these are sound on any bytes cut from a replica.
+
+fn write(replica: &mut [u8], id: &[u8], path: &[u8], kind: u32, label: u64) -> Answer {
+    answer(unsafe {
+        sys::refile_write(
+            replica.as_mut_ptr(),
+            replica.len(),
+            id.as_ptr(),
+            id.len(),
+            1,
+            path.as_ptr(),
+            path.len(),
+            kind,
+            label,
+        )
+    })
+}
+
+/// The parts of an edit that can be bad.
+#[derive(Clone, Copy)]
+struct Edit<'a> {
+    hash: &'a [u8],
+    kind: u32,
+    label: u64,
+    named: u32,
+    parent_number: u32,
+    parent_hash: &'a [u8],
+}
+
+/// An edit that would be accepted.
+const EDIT: Edit = Edit {
+    hash: &[0x91; 16],
+    kind: LIVE,
+    label: 8,
+    named: 1,
+    parent_number: 1,
+    parent_hash: &HASH,
+};
+
+fn edit(replica: &mut [u8], id: &[u8], edit: Edit) -> Answer {
+    answer(unsafe {
+        sys::refile_edit(
+            replica.as_mut_ptr(),
+            replica.len(),
+            id.as_ptr(),
+            id.len(),
+            edit.hash.as_ptr(),
+            edit.hash.len(),
+            edit.kind,
+            edit.label,
+            edit.named,
+            edit.parent_number,
+            edit.parent_hash.as_ptr(),
+            edit.parent_hash.len(),
+        )
+    })
+}
+
+fn path(replica: &[u8], id: &[u8], hash: &[u8], out: &mut [u8]) -> Answer {
+    answer(unsafe {
+        sys::refile_path(
+            replica.as_ptr(),
+            replica.len(),
+            id.as_ptr(),
+            id.len(),
+            1,
+            hash.as_ptr(),
+            hash.len(),
+            out.as_mut_ptr(),
+            out.len(),
+        )
+    })
+}
+
+fn changes(replica: &[u8], out: &mut [u8], found: &mut [u8]) -> Answer {
+    answer(unsafe {
+        sys::refile_changes(
+            replica.as_ptr(),
+            replica.len(),
+            0,
+            out.as_mut_ptr(),
+            out.len(),
+            found.as_mut_ptr(),
+            found.len(),
+        )
+    })
+}
+
+fn pull(target: &mut [u8], source: &[u8], counts: &mut [u8]) -> Answer {
+    answer(unsafe {
+        sys::refile_pull(
+            target.as_mut_ptr(),
+            target.len(),
+            source.as_ptr(),
+            source.len(),
+            0,
+            counts.as_mut_ptr(),
+            counts.len(),
+        )
+    })
+}
+
+fn counts(replica: &[u8], held: &mut [u8]) -> Answer {
+    answer(unsafe {
+        sys::refile_counts(
+            replica.as_ptr(),
+            replica.len(),
+            held.as_mut_ptr(),
+            held.len(),
+        )
+    })
+}
+
+/// Makes a call on a whole replica, which must be refused so and leave every byte.
+fn refused(number: u32, call: impl FnOnce(&mut [u8]) -> Answer) {
+    let mut bytes = replica();
+    let former = bytes.clone();
+    assert_eq!(call(&mut bytes), (number, 0));
+    assert!(bytes == former, "refusal {number} altered the replica");
+}
+
+#[test]
+fn a_replica_of_another_size() {
+    for size in [0, 1, 16, REPLICA_BYTES - 1, REPLICA_BYTES + 1] {
+        let whole = replica();
+        let mut bytes = whole.clone();
+        bytes.resize(size, 0xee);
+        let former = bytes.clone();
+        let mut out = [0xee; 512];
+        let (at, len) = (bytes.as_mut_ptr(), size);
+        let (out_at, out_len) = (out.as_mut_ptr(), out.len());
+        let (id, id_len) = (b"lot".as_ptr(), 3);
+        // SAFETY: every pointer and length is one buffer's, and none overlap.
+        let results = unsafe {
+            [
+                sys::refile_fresh(at, len),
+                sys::refile_load(at, len, NONE.as_ptr(), 0),
+                sys::refile_save(at, len, out_at, out_len),
+                sys::refile_winner(at, len, id, id_len, out_at, out_len),
+                sys::refile_leaves(at, len, id, id_len, out_at, out_len),
+                sys::refile_missing(at, len, id, id_len, NONE.as_ptr(), 0, out_at, out_len),
+                sys::refile_update_sequence(at, len),
+            ]
+        };
+        assert_eq!(results.map(answer), [(BAD_REPLICA, 0); 7]);
+        // With everything else bad as well.
+        let bad = Edit {
+            hash: NONE,
+            kind: 0,
+            named: 2,
+            ..EDIT
+        };
+        assert_eq!(write(&mut bytes, NONE, NONE, 0, 0), (BAD_REPLICA, 0));
+        assert_eq!(edit(&mut bytes, NONE, bad), (BAD_REPLICA, 0));
+        assert_eq!(path(&bytes, NONE, NONE, &mut out), (BAD_REPLICA, 0));
+        assert_eq!(changes(&bytes, &mut out, &mut []), (BAD_REPLICA, 0));
+        assert_eq!(counts(&bytes, &mut []), (BAD_REPLICA, 0));
+        assert_eq!(pull(&mut bytes, &whole, &mut []), (BAD_REPLICA, 0));
+        let mut target = whole.clone();
+        assert_eq!(pull(&mut target, &bytes, &mut []), (BAD_REPLICA, 0));
+        assert!(target == whole && bytes == former && out == [0xee; 512]);
+    }
+}
+
+#[test]
+fn contents() {
+    for kind in [0, 3, 257, u32::MAX] {
+        refused(BAD_KIND, |bytes| write(bytes, NONE, NONE, kind, 1));
+        let bad = Edit {
+            kind,
+            named: 2,
+            hash: NONE,
+            ..EDIT
+        };
+        refused(BAD_KIND, |bytes| edit(bytes, NONE, bad));
+    }
+    for label in [1, u64::MAX] {
+        refused(BAD_LABEL, |bytes| write(bytes, NONE, NONE, DELETED, label));
+        let bad = Edit {
+            kind: DELETED,
+            label,
+            named: 2,
+            hash: NONE,
+            ..EDIT
+        };
+        refused(BAD_LABEL, |bytes| edit(bytes, NONE, bad));
+    }
+}
+
+#[test]
+fn flags_hashes_and_parents_of_an_edit() {
+    for named in [2, 256, u32::MAX] {
+        let bad = Edit {
+            named,
+            hash: NONE,
+            ..EDIT
+        };
+        refused(BAD_FLAG, |bytes| edit(bytes, NONE, bad));
+    }
+    let long = [0x20; 32];
+    for hash in [NONE, &HASH[1..], &long[..17], &long] {
+        // Without a name the parent's hash would be refused next.
+        refused(BAD_HASH, |bytes| {
+            edit(
+                bytes,
+                NONE,
+                Edit {
+                    hash,
+                    named: 0,
+                    ..EDIT
+                },
+            )
+        });
+        let parent_hash = hash;
+        refused(BAD_HASH, |bytes| {
+            edit(
+                bytes,
+                NONE,
+                Edit {
+                    parent_hash,
+                    ..EDIT
+                },
+            )
+        });
+    }
+    let unnamed = Edit {
+        named: 0,
+        parent_number: 0,
+        parent_hash: NONE,
+        ..EDIT
+    };
+    for (parent_number, parent_hash) in [(1, NONE), (0, &HASH[..]), (0, &HASH[1..]), (1, &HASH)] {
+        let bad = Edit {
+            parent_number,
+            parent_hash,
+            ..unnamed
+        };
+        refused(BAD_NO_PARENT, |bytes| edit(bytes, NONE, bad));
+    }
+    // The document's winner is live, so an edit that names no parent is refused by the rules.
+    refused(9, |bytes| edit(bytes, b"lot", unnamed));
+    assert_eq!(edit(&mut replica(), b"lot", EDIT), (0, 2));
+    assert_eq!(edit(&mut replica(), b"new", unnamed), (0, 1));
+}
+
+#[test]
+fn the_hash_of_a_path() {
+    let long = [0x20; 17];
+    for hash in [NONE, &HASH[1..], &long] {
+        let mut out = [0xee; 16];
+        refused(BAD_HASH, |bytes| path(bytes, NONE, hash, &mut out));
+        assert_eq!(out, [0xee; 16]);
+    }
+    let mut out = [0xee; 16];
+    assert_eq!(path(&replica(), b"lot", &HASH, &mut out), (0, 1));
+    assert_eq!(out, HASH);
+}
+
+#[test]
+fn answer_buffers() {
+    for size in [0, 7, 9, 11, 13, 15, 17, 64] {
+        let mut found = vec![0xee; size];
+        let mut out = [0xee; 2];
+        refused(BAD_ANSWER, |bytes| changes(bytes, &mut out, &mut found));
+        let source = replica();
+        refused(BAD_ANSWER, |bytes| pull(bytes, &source, &mut found));
+        refused(BAD_ANSWER, |bytes| counts(bytes, &mut found));
+        assert_eq!(found, vec![0xee; size]);
+        assert_eq!(out, [0xee; 2]);
+    }
+    // Of a refusal by the rules, and of "no more", the answer buffer stays as well.
+    let mut found = [0xee; 16];
+    refused(14, |bytes| changes(bytes, &mut [0; 2], &mut found));
+    assert_eq!(found, [0xee; 16]);
+}
