@@ -64,7 +64,7 @@ fn content(random: &mut Random) -> Content {
     if random.percent(25) {
         Content::Deleted
     } else {
-        Content::Live(random.next())
+        Content::Live(random.below(1_000_000) as u64)
     }
 }
 
