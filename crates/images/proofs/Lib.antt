@@ -1,5 +1,8 @@
 -- The theorems about images, in Theorems, and the laws that they rest on.
 pub mod Tests
 pub mod Lists
+pub mod Members
 pub mod Rows
 pub mod Entries
+pub mod Fields
+pub mod Trees
