@@ -24,11 +24,11 @@ any-same p q (x ∷ xs) h = ap₂ (λ (a b : Bool). a || b) (h .0) (any-same p q
 
 module _ {K A : Type 0} (O : TotalOrder K) where
   -- k is at the head, or in the tail
-  data Place (k : K) (a : A) (x : K × A) (xs : Map K A) : Type 0 where
+  pub data Place (k : K) (a : A) (x : K × A) (xs : Map K A) : Type 0 where
     here : k ≡ x .0 → x .1 ≡ a → Place k a x xs
     there : find (O .cmp) k xs ≡ some a → Place k a x xs
 
-  place : (k : K) (a : A) (x : K × A) (xs : Map K A) → find (O .cmp) k (x ∷ xs) ≡ some a → Place k a x xs
+  pub place : (k : K) (a : A) (x : K × A) (xs : Map K A) → find (O .cmp) k (x ∷ xs) ≡ some a → Place k a x xs
   place k a x xs e = go (O .cmp k (x .0)) refl
     where
       go : (o : Order) → O .cmp k (x .0) ≡ o → Place k a x xs

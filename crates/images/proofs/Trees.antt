@@ -19,14 +19,10 @@ use Rattle.rules.specs.Order.{orderRev, isLess, isEqual, sameRev}
 use Rattle.rules.specs.Replica.{Node, Tree, Known, HasParent, HasContent, HasChild, Leaf, IsRevision, IsContent, IsTree}
 use Rattle.rules.proofs.MapLaws.{none≢some, some-inj}
 use Rattle.rules.proofs.OrderLaws.{revOrder}
-use Rattle.images.proofs.Tests.{true≢false, or-none, or-left, or-right}
+use Rattle.images.proofs.Tests.{true≢false, or-none, or-left, or-right, AllFalse}
 use Rattle.images.proofs.Lists.{Each, each-map, each-onto, each-from, map-map, map-id}
 use Rattle.images.proofs.Members.{any-map, each-find, find-each, any-find, find-any}
 use Rattle.images.proofs.Rows.{RowFits, RowRules, rules-row, row-rules, IsRow, rowFor, row-of-node, node-of-row, node-is, fields-rules}
-
--- none of the tests holds
-abbrev pub AllFalse : List Bool → Type 0
-AllFalse bs = Each (λ b. b ≡ false) bs
 
 pub is-less : (o : Order) → not (isLess o) ≡ false → o ≡ Less
 is-less Less e = refl
