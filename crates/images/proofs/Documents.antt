@@ -1,21 +1,20 @@
 -- A replica's documents: their entries and rows meet the rules exactly if they are a replica's. Assumes nothing.
 use mathlib.Core.Path.{_≡_, refl, sym, ap, ap₂, _∙_, subst}
-use mathlib.Core.Bool.{Bool, true, false, not}
+use mathlib.Core.Bool.{Bool, false, not}
 use mathlib.Core.List.{List, [], _∷_, _++_, map}
 use mathlib.Core.Option.{Option, none, some}
-use Prim.Native.Nat.{ℕ, zero, suc, _+_, _-_, _*_, _≤_, _<_, max}
+use Prim.Native.Nat.{ℕ, suc, _+_, _*_, _≤_, max}
 use native.Mathlib.Omega.{arith}
-use lib.ListN.{length, take, drop, length-append, length-map, length-take, length-drop, take-append-drop}
+use lib.ListN.{length, take, drop, length-append, length-map, length-drop, take-append-drop}
 use lib.Seq.{take-at, drop-at, length-take-le}
 use Rattle.rules.specs.declared.Order.{Order}
-use Rattle.rules.specs.declared.Order.the-variants.{Less, Equal, Greater}
-use Rattle.rules.specs.Image.{Entry, Row, nodeIn, badEntries, badEntry, notAbove, largest, sumRows, deal, badRows, badLinks, inEach, documentsIn}
-use Rattle.rules.specs.Map.{Map, find, Below, Ascending}
+use Rattle.rules.specs.Image.{Entry, Row, nodeIn, badEntries, notAbove, largest, sumRows, deal, badRows, badLinks, inEach, documentsIn}
+use Rattle.rules.specs.Map.{Map, Below, Ascending}
 use Rattle.rules.specs.Order.{orderBytes, isLess}
-use Rattle.rules.specs.Replica.{Id, Document, Replica, documentOf, revisionsHeld, largestSeq, IsId, IsTree, IsDocument, IsReplica}
+use Rattle.rules.specs.Replica.{Id, Document, revisionsHeld, largestSeq, IsId, IsTree}
 use Rattle.rules.specs.Room.{last}
 use Rattle.images.proofs.Tests.{AllFalse}
-use Rattle.images.proofs.Lists.{Each, each-map, each-onto, each-from, each-append, each-take, each-drop, map-map, map-id}
+use Rattle.images.proofs.Lists.{Each, each-map, each-onto, each-append, each-take, each-drop, map-map, map-id}
 use Rattle.images.proofs.Rows.{RowFits, IsRow, rowFor, row-of-node, fields-fit}
 use Rattle.images.proofs.Entries.{EntryFits, EntryRules, rules-entry, entry-rules, entryFor, IsEntry, entry-for-fits, entry-for-rules, document-entry, entry-id}
 use Rattle.images.proofs.Trees.{is-less, tree-rows, tree-forth, tree-back}
@@ -104,6 +103,7 @@ entries-forth place before (d ∷ ds) r s b room most =
       seq-most = omega arith;
       place = omega arith;
     }
+
     go : EntriesHold (place + 48 * length (d .1 .tree)) (some (d .0)) (entriesFor (place + 48 * length (d .1 .tree)) ds)
         → EntriesHold place before (entriesFor place (d ∷ ds))
     go h = record {
@@ -145,9 +145,9 @@ unfolding documentsIn entriesFor entryFor
 documents-read place [] r = refl
 documents-read place (d ∷ ds) r =
     let t : map nodeIn (map rowFor (d .1 .tree)) ≡ d .1 .tree =
-        map-map rowFor nodeIn (d .1 .tree)
-        ∙ map-id (λ v. nodeIn (rowFor v)) (d .1 .tree)
-        (each-map IsRow (λ v. nodeIn (rowFor v) ≡ v) row-of-node (d .1 .tree) (tree-rows (d .1 .tree) (r .0 .tree))) in
+    map-map rowFor nodeIn (d .1 .tree)
+    ∙ map-id (λ v. nodeIn (rowFor v)) (d .1 .tree)
+    (each-map IsRow (λ v. nodeIn (rowFor v) ≡ v) row-of-node (d .1 .tree) (tree-rows (d .1 .tree) (r .0 .tree))) in
     ap₂ {C = Map Id Document} (λ a b. a ∷ b) (λ i. (d .0, record { seq = d .1 .seq; tree = t i }))
     (documents-read (place + 48 * length (d .1 .tree)) ds (r .1))
 

@@ -1,10 +1,10 @@
 -- A whole image by its fields: head, entries and rows are read back from what they write, and write back what
 -- they were read from. Assumes nothing.
-use mathlib.Core.Path.{_≡_, refl, sym, ap, ap₂, _∙_, subst}
+use mathlib.Core.Path.{_≡_, refl, sym, ap, ap₂, _∙_}
 use mathlib.Core.List.{List, [], _∷_, _++_, map, append-assoc, append-nil}
-use Prim.Native.Nat.{ℕ, zero, suc, _+_, _*_, _≤_, _<_}
+use Prim.Native.Nat.{ℕ, zero, _+_, _*_, _≤_, _<_}
 use native.Mathlib.Omega.{arith}
-use lib.ListN.{length, take, drop, length-append, length-drop, length-map, take-append-drop}
+use lib.ListN.{length, drop, length-append, length-drop, length-map, take-append-drop}
 use lib.Seq.{drop-at, drop-drop, take-all}
 use Rattle.rules.specs.Bytes.{be, value, part, pieces, join, Bytes}
 use Rattle.rules.specs.Image.{Head, headOf, Entry, entryOf, Row, rowOf, entriesOf, rowsOf, totalLength}
@@ -73,7 +73,7 @@ head-read h t f =
     let zero = ap value (p3 0 2 ∙ part-front Z t4 2 z2) ∙ value-be 2 (h .zero) (f .zero) in
     let seq = ap value (p4 0 4 ∙ part-front S t5 4 s4) ∙ value-be 4 (h .seq) (f .seq) in
     let total =
-        ap value (p4 4 4 ∙ (part-past S t5 4 0 4 s4 ∙ part-front T t 4 (length-be 4 (h .total)))) ∙ value-be 4 (h .total) (f .total) in
+    ap value (p4 4 4 ∙ (part-past S t5 4 0 4 s4 ∙ part-front T t 4 (length-be 4 (h .total)))) ∙ value-be 4 (h .total) (f .total) in
     λ i. record { edition = edition i; documents = documents i; revisions = revisions i; zero = zero i; seq = seq i; total = total i }
 
 module _ (s : List ℕ) (p : Bytes s) (size : 16 ≤ length s) where
@@ -93,11 +93,11 @@ module _ (s : List ℕ) (p : Bytes s) (size : 16 ≤ length s) where
   unfolding headWith headOf
   head-written =
       let number : (k n m : ℕ) (t : List ℕ) → k + n ≡ m → m ≤ 16 → t ++ drop 16 s ≡ drop m s → (be n (value (part k n s)) ++ t) ++ drop 16 s ≡ drop k s =
-          λ k n m t e h q.
-              append-assoc (be n (value (part k n s))) t (drop 16 s)
-              ∙ (ap (λ (l : List ℕ). be n (value (part k n s)) ++ l) q
-              ∙ (ap (λ (l : List ℕ). l ++ drop m s) (be-value-of n (part k n s) (length-part k n s (omega arith)) (bytes-part k n s p))
-              ∙ sym (part-next k n m s e))) in
+      λ k n m t e h q.
+      append-assoc (be n (value (part k n s))) t (drop 16 s)
+      ∙ (ap (λ (l : List ℕ). be n (value (part k n s)) ++ l) q
+      ∙ (ap (λ (l : List ℕ). l ++ drop m s) (be-value-of n (part k n s) (length-part k n s (omega arith)) (bytes-part k n s p))
+      ∙ sym (part-next k n m s e))) in
       let T : List ℕ = be 4 (value (part 12 4 s)) in
       let e12 : T ++ drop 16 s ≡ drop 12 s = ap (λ (l : List ℕ). l ++ drop 16 s) (sym (append-nil T)) ∙ number 12 4 16 [] refl (omega arith) refl in
       let t8 : List ℕ = be 4 (value (part 8 4 s)) ++ T in
@@ -178,8 +178,8 @@ module _ (h : Head) (es : List Entry) (ws : List Row) (f : Fits h es ws) where
       let b = entries-length in
       let n : length (headWith h ++ E) ≡ 16 + 44 * headOf (headWith h ++ (E ++ W)) .documents = length-append (headWith h) E ∙ omega arith in
       let rest : drop (16 + 44 * headOf (headWith h ++ (E ++ W)) .documents) (headWith h ++ (E ++ W)) ≡ W ++ [] =
-          ap (drop (16 + 44 * headOf (headWith h ++ (E ++ W)) .documents)) (sym (append-assoc (headWith h) E W))
-          ∙ (drop-at (headWith h ++ E) W (16 + 44 * headOf (headWith h ++ (E ++ W)) .documents) n ∙ sym (append-nil W)) in
+      ap (drop (16 + 44 * headOf (headWith h ++ (E ++ W)) .documents)) (sym (append-assoc (headWith h) E W))
+      ∙ (drop-at (headWith h ++ E) W (16 + 44 * headOf (headWith h ++ (E ++ W)) .documents) n ∙ sym (append-nil W)) in
       ap₂ (λ (k : ℕ) (l : List ℕ). map rowOf (pieces k 48 l)) r rest
       ∙ read-all rowWith rowOf 48 ws [] (each-map RowFits (λ w. length (rowWith w) ≡ 48) length-rowWith ws (f .rows))
       (each-map RowFits (λ w. rowOf (rowWith w) ≡ w) row-read ws (f .rows))
@@ -208,13 +208,13 @@ module _ (s : List ℕ) (p : Bytes s) (size : length s ≡ totalLength (headOf s
       let r : ℕ = headOf s .revisions in
       let tail : List ℕ = drop (16 + 44 * d) s in
       let rows : join (map rowWith (map rowOf (pieces r 48 tail))) ≡ tail =
-          write-all rowWith rowOf 48 row-written r tail (bytes-drop (16 + 44 * d) s p) (simp length-drop (omega arith))
-          ∙ take-all (r * 48) tail (simp length-drop (omega arith)) in
+      write-all rowWith rowOf 48 row-written r tail (bytes-drop (16 + 44 * d) s p) (simp length-drop (omega arith))
+      ∙ take-all (r * 48) tail (simp length-drop (omega arith)) in
       let k : 16 + d * 44 ≡ 16 + 44 * d = omega arith in
       let entries : join (map entryWith (map entryOf (pieces d 44 (drop 16 s)))) ++ tail ≡ drop 16 s =
-          ap₂ (λ (a b : List ℕ). a ++ b)
-          (write-all entryWith entryOf 44 entry-written d (drop 16 s) (bytes-drop 16 s p) (simp length-drop (omega arith)))
-          (ap (λ (n : ℕ). drop n s) (sym k) ∙ sym (drop-drop (d * 44) 16 s))
-          ∙ take-append-drop (d * 44) (drop 16 s) in
+      ap₂ (λ (a b : List ℕ). a ++ b)
+      (write-all entryWith entryOf 44 entry-written d (drop 16 s) (bytes-drop 16 s p) (simp length-drop (omega arith)))
+      (ap (λ (n : ℕ). drop n s) (sym k) ∙ sym (drop-drop (d * 44) 16 s))
+      ∙ take-append-drop (d * 44) (drop 16 s) in
       ap (λ (l : List ℕ). headWith (headOf s) ++ (join (map entryWith (map entryOf (pieces d 44 (drop 16 s)))) ++ l)) rows
       ∙ (ap (λ (l : List ℕ). headWith (headOf s) ++ l) entries ∙ head-written s p (omega arith))

@@ -9,3 +9,5 @@ pub mod Trees
 pub mod Sequences
 pub mod Documents
 pub mod Rules
+pub mod Replicas
+pub mod Theorems

@@ -2,7 +2,7 @@
 use mathlib.Core.Path.{_≡_, refl, sym, ap, ap₂, _∙_, subst}
 use mathlib.Core.Bool.{Bool, true, false, _||_}
 use mathlib.Core.List.{List, [], _∷_, map}
-use mathlib.Core.Option.{Option, none, some}
+use mathlib.Core.Option.{some}
 use Rattle.rules.specs.declared.Order.{Order}
 use Rattle.rules.specs.declared.Order.the-variants.{Less, Equal, Greater}
 use Rattle.rules.specs.Choice.{any}
@@ -80,6 +80,7 @@ module _ {K A : Type 0} (O : TotalOrder K) where
     where
       later : Some t xs → Some t (x ∷ xs)
       later f = (f .0, f .1, find-tail (f .0) (f .1) x xs s (f .2), f .3)
+
       go : (b : Bool) → t x ≡ b → (any t xs ≡ true → Some t xs) → Some t (x ∷ xs)
       go true p ih = (x .0, x .1, find-head x xs, p)
       go false p ih = later (ih (sym (ap (λ (b : Bool). b || any t xs) p) ∙ e))

@@ -1,15 +1,15 @@
 -- The faults of an image: none is found exactly if every rule is met, and the one found is the first. Assumes nothing.
-use mathlib.Core.Path.{_≡_, refl, sym, ap, ap₂, _∙_, subst}
-use mathlib.Core.Bool.{Bool, true, false, not, _||_}
+use mathlib.Core.Path.{_≡_, refl, sym, ap, ap₂, _∙_}
+use mathlib.Core.Bool.{Bool, true, false, not}
 use mathlib.Core.List.{List, [], _∷_, _++_}
 use mathlib.Core.Option.{Option, none, some}
-use Prim.Native.Nat.{ℕ, zero, suc, _+_, _*_, _≤_, _<_}
+use Prim.Native.Nat.{ℕ, zero, suc, _+_, _*_, _≤_}
 use native.Mathlib.Omega.{arith}
 use lib.Dec.{eqb, ltb}
 use lib.ListN.{length}
 use borrow.Author.Tests.{ltb-false, eqb-true, not-false, le-ltb, eq-eqb}
 use Rattle.rules.specs.declared.Fault.{Fault}
-use Rattle.rules.specs.declared.Fault.the-variants.{TooShort, BadEdition, BadHead, BadContents, BadSequence, BadRow, BadParent}
+use Rattle.rules.specs.declared.Fault.the-variants.{BadContents, BadSequence, BadRow, BadParent}
 use Rattle.rules.specs.Choice.{pick, orElse, firstThat}
 use Rattle.rules.specs.Image.{Head, Entry, Row, headOf, entriesOf, rowsOf, deal, sumRows, largest, firstTrue, badHead, badEntries, badContents, badSeqs, badSequence, badRows, badLinks, inEach, at, faults, totalLength}
 use Rattle.rules.proofs.MapLaws.{none≢some, some-inj}
@@ -153,14 +153,14 @@ module _ (s : List ℕ) where
       let es : List Entry = entriesOf s in
       let f = none-holds (faults s) e in
       let head =
-          none5 (not (eqb (h .zero) 0)) (ltb 32 (h .documents)) (ltb 512 (h .revisions))
-          (not (eqb (h .total) (totalLength (h .documents) (h .revisions)))) (not (eqb (h .total) (length s))) (f .1 .1 .0) in
+      none5 (not (eqb (h .zero) 0)) (ltb 32 (h .documents)) (ltb 512 (h .revisions))
+      (not (eqb (h .total) (totalLength (h .documents) (h .revisions)))) (not (eqb (h .total) (length s))) (f .1 .1 .0) in
       let contents =
-          else-none (firstTrue 0 (badEntries (16 + 44 * h .documents) none es)) (eqb (sumRows es) (h .revisions)) (h .documents)
-          (at-none BadContents (badContents s) (f .1 .1 .1 .0)) in
+      else-none (firstTrue 0 (badEntries (16 + 44 * h .documents) none es)) (eqb (sumRows es) (h .revisions)) (h .documents)
+      (at-none BadContents (badContents s) (f .1 .1 .1 .0)) in
       let sequence =
-          else-none (firstTrue 0 (badSeqs [] es)) (eqb (h .seq) (largest es)) (h .documents)
-          (at-none BadSequence (badSequence s) (f .1 .1 .1 .1 .0)) in
+      else-none (firstTrue 0 (badSeqs [] es)) (eqb (h .seq) (largest es)) (h .documents)
+      (at-none BadSequence (badSequence s) (f .1 .1 .1 .1 .0)) in
       record {
         long = ltb-false (length s) 16 (f .0);
         edition = eqb-true (h .edition) 1 (not-false (eqb (h .edition) 1) (f .1 .0));
@@ -182,18 +182,33 @@ module _ (s : List ℕ) where
   meets-faults m =
       let h : Head = headOf s in
       let es : List Entry = entriesOf s in
-      holds-none (faults s)
-      (le-ltb (length s) 16 (m .long),
-      (ap not (eq-eqb (h .edition) 1 (m .edition)),
-      (all5 (not (eqb (h .zero) 0)) (ltb 32 (h .documents)) (ltb 512 (h .revisions))
-      (not (eqb (h .total) (totalLength (h .documents) (h .revisions)))) (not (eqb (h .total) (length s)))
-      (ap not (eq-eqb (h .zero) 0 (m .zero)), le-ltb 32 (h .documents) (m .documents), le-ltb 512 (h .revisions) (m .revisions),
-      ap not (eq-eqb (h .total) (totalLength (h .documents) (h .revisions)) (m .total)), ap not (eq-eqb (h .total) (length s) (m .given))),
-      (none-at BadContents (badContents s)
-      (none-else (firstTrue 0 (badEntries (16 + 44 * h .documents) none es)) (eqb (sumRows es) (h .revisions)) (h .documents)
-      (none-true 0 (badEntries (16 + 44 * h .documents) none es) (m .entries)) (eq-eqb (sumRows es) (h .revisions) (m .sum))),
-      (none-at BadSequence (badSequence s)
-      (none-else (firstTrue 0 (badSeqs [] es)) (eqb (h .seq) (largest es)) (h .documents)
-      (none-true 0 (badSeqs [] es) (m .seqs)) (eq-eqb (h .seq) (largest es) (m .largest))),
-      (none-at BadRow (firstTrue 0 (inEach (badRows none) (deal es (rowsOf s)))) (none-true 0 (inEach (badRows none) (deal es (rowsOf s))) (m .rows)),
-      (none-at BadParent (firstTrue 0 (inEach badLinks (deal es (rowsOf s)))) (none-true 0 (inEach badLinks (deal es (rowsOf s))) (m .links)), tt)))))))
+      holds-none (faults s) (
+        le-ltb (length s) 16 (m .long),
+        (
+          ap not (eq-eqb (h .edition) 1 (m .edition)),
+          (
+            all5 (not (eqb (h .zero) 0)) (ltb 32 (h .documents)) (ltb 512 (h .revisions))
+                (not (eqb (h .total) (totalLength (h .documents) (h .revisions)))) (not (eqb (h .total) (length s))) (
+                  ap not (eq-eqb (h .zero) 0 (m .zero)),
+                  le-ltb 32 (h .documents) (m .documents),
+                  le-ltb 512 (h .revisions) (m .revisions),
+                  ap not (eq-eqb (h .total) (totalLength (h .documents) (h .revisions)) (m .total)),
+                  ap not (eq-eqb (h .total) (length s) (m .given)),
+                ),
+            (
+              none-at BadContents (badContents s)
+                  (none-else (firstTrue 0 (badEntries (16 + 44 * h .documents) none es)) (eqb (sumRows es) (h .revisions)) (h .documents)
+                  (none-true 0 (badEntries (16 + 44 * h .documents) none es) (m .entries)) (eq-eqb (sumRows es) (h .revisions) (m .sum))),
+              (
+                none-at BadSequence (badSequence s)
+                    (none-else (firstTrue 0 (badSeqs [] es)) (eqb (h .seq) (largest es)) (h .documents)
+                    (none-true 0 (badSeqs [] es) (m .seqs)) (eq-eqb (h .seq) (largest es) (m .largest))),
+                (
+                  none-at BadRow (firstTrue 0 (inEach (badRows none) (deal es (rowsOf s)))) (none-true 0 (inEach (badRows none) (deal es (rowsOf s))) (m .rows)),
+                  (none-at BadParent (firstTrue 0 (inEach badLinks (deal es (rowsOf s)))) (none-true 0 (inEach badLinks (deal es (rowsOf s))) (m .links)), tt),
+                ),
+              ),
+            ),
+          ),
+        ),
+      )

@@ -4,7 +4,7 @@ use mathlib.Core.Bool.{Bool, false, _||_}
 use mathlib.Core.List.{List, [], _∷_, map}
 use mathlib.Core.Logic.{_≢_}
 use mathlib.Core.Option.{some}
-use Prim.Native.Nat.{ℕ, suc, _≤_}
+use Prim.Native.Nat.{ℕ, _≤_}
 use native.Mathlib.Omega.{arith}
 use lib.Dec.{eqb}
 use borrow.Author.Tests.{eqb-false, ne-eqb}
@@ -45,9 +45,10 @@ Apart before n = any (eqb n) before ≡ false
 tests-forth : (before ns : List ℕ) → Each (λ n. 1 ≤ n) ns → Each (Apart before) ns → Distinct ns → AllFalse (seqTests before ns)
 unfolding seqTests any
 tests-forth before [] a b c = tt
-tests-forth before (n ∷ ns) a b c =
-    (or-none (eqb n 0) (any (eqb n) before) (let h = a .0 in ne-eqb n 0 (λ e. omega arith)) (b .0),
-    tests-forth (n ∷ before) ns (a .1) (apart ns (c .0) (b .1)) (c .1))
+tests-forth before (n ∷ ns) a b c = (
+  or-none (eqb n 0) (any (eqb n) before) (let h = a .0 in ne-eqb n 0 (λ e. omega arith)) (b .0),
+  tests-forth (n ∷ before) ns (a .1) (apart ns (c .0) (b .1)) (c .1),
+)
   where
     apart : (ms : List ℕ) → Each (λ m. n ≢ m) ms → Each (Apart before) ms → Each (Apart (n ∷ before)) ms
     apart [] p q = tt
@@ -66,9 +67,11 @@ tests-back before (n ∷ ns) h = go (tests-back (n ∷ before) ns (h .1))
     old : (ms : List ℕ) → Each (Apart (n ∷ before)) ms → Each (Apart before) ms
     old [] p = tt
     old (m ∷ ms) p = (or-right (eqb m n) (any (eqb m) before) (p .0), old ms (p .1))
+
     new : (ms : List ℕ) → Each (Apart (n ∷ before)) ms → Each (λ m. n ≢ m) ms
     new [] p = tt
     new (m ∷ ms) p = ((λ e. eqb-false m n (or-left (eqb m n) (any (eqb m) before) (p .0)) (sym e)), new ms (p .1))
+
     go : SeqsHold (n ∷ before) ns → SeqsHold before (n ∷ ns)
     go r = record {
       least = ((let z : n ≢ 0 = eqb-false n 0 (or-left (eqb n 0) (any (eqb n) before) (h .0)) in omega arith), r .least);
@@ -97,9 +100,10 @@ OwnSeqs ds = (i j : Id) (d e : Document) → find orderBytes i ds ≡ some d →
 
 pub own-forth : (ds : Map Id Document) → Ascending orderBytes ds → OwnSeqs ds → Distinct (map seqOf ds)
 own-forth [] s own = tt
-own-forth (x ∷ xs) s own =
-    (each-onto (λ m. seqOf x ≢ m) seqOf xs (find-each bytesOrder (λ y. seqOf x ≢ seqOf y) xs (s .1) other),
-    own-forth xs (s .1) (λ i j d e p q. own i j d e (find-tail bytesOrder i d x xs s p) (find-tail bytesOrder j e x xs s q)))
+own-forth (x ∷ xs) s own = (
+  each-onto (λ m. seqOf x ≢ m) seqOf xs (find-each bytesOrder (λ y. seqOf x ≢ seqOf y) xs (s .1) other),
+  own-forth xs (s .1) (λ i j d e p q. own i j d e (find-tail bytesOrder i d x xs s p) (find-tail bytesOrder j e x xs s q)),
+)
   where
     other : (k : Id) (a : Document) → find orderBytes k xs ≡ some a → seqOf x ≡ a .seq .0 → ⊥
     other k a e q =
@@ -115,6 +119,7 @@ own-back (x ∷ xs) u i j d e p q m =
   where
     other : (k : Id) (a : Document) → find orderBytes k xs ≡ some a → seqOf x ≢ a .seq .0
     other = each-find bytesOrder (λ y. seqOf x ≢ seqOf y) xs (each-from (λ n. seqOf x ≢ n) seqOf xs (u .0))
+
     go : Place bytesOrder i d x xs → Place bytesOrder j e x xs → (find orderBytes i xs ≡ some d → find orderBytes j xs ≡ some e → j ≡ i) → j ≡ i
     go (Place.here a b) (Place.here a' b') f = a' ∙ sym a
     go (Place.here a b) (Place.there t) f = absurd (other j e t (ap (λ (y : Document). y .seq .0) b ∙ ap (λ (y : Seq). y .0) (sym m)))

@@ -1,9 +1,9 @@
 -- A document's rows: they meet the rules on rows exactly if what they hold is a tree. Assumes nothing.
-use mathlib.Core.Path.{_≡_, refl, sym, ap, ap₂, _∙_, subst}
-use mathlib.Core.Bool.{Bool, true, false, not, _||_}
-use mathlib.Core.List.{List, [], _∷_, _++_, map}
+use mathlib.Core.Path.{_≡_, refl, sym, ap, _∙_, subst}
+use mathlib.Core.Bool.{Bool, true, false, not}
+use mathlib.Core.List.{List, [], _∷_, map}
 use mathlib.Core.Option.{Option, none, some}
-use Prim.Native.Nat.{ℕ, zero, suc, _≤_}
+use Prim.Native.Nat.{ℕ, _≤_}
 use lib.Dec.{eqb}
 use lib.ListN.{length, length-map}
 use borrow.Author.Tests.{not-false}
@@ -13,16 +13,16 @@ use Rattle.rules.specs.declared.Order.{Order}
 use Rattle.rules.specs.declared.Order.the-variants.{Less, Equal, Greater}
 use Rattle.rules.specs.declared.Revision.{Revision}
 use Rattle.rules.specs.Choice.{pick, maybe, any}
-use Rattle.rules.specs.Image.{Row, nodeIn, badRow, rowNotAbove, badRows, parentOfRow, isParentOf, badLink, badLinks, kindOf, firstTrue}
+use Rattle.rules.specs.Image.{Row, nodeIn, badRow, rowNotAbove, badRows, parentOfRow, isParentOf, badLink, badLinks, kindOf}
 use Rattle.rules.specs.Map.{find, Below, Ascending}
 use Rattle.rules.specs.Order.{orderRev, isLess, isEqual, sameRev}
-use Rattle.rules.specs.Replica.{Node, Tree, Known, HasParent, HasContent, HasChild, Leaf, IsRevision, IsContent, IsTree}
+use Rattle.rules.specs.Replica.{Node, Tree, Known, HasContent, HasChild, Leaf, IsTree}
 use Rattle.rules.proofs.MapLaws.{none≢some, some-inj}
 use Rattle.rules.proofs.OrderLaws.{revOrder}
 use Rattle.images.proofs.Tests.{true≢false, or-none, or-left, or-right, AllFalse}
-use Rattle.images.proofs.Lists.{Each, each-map, each-onto, each-from, map-map, map-id}
+use Rattle.images.proofs.Lists.{Each, each-onto, each-from, map-map, map-id}
 use Rattle.images.proofs.Members.{any-map, each-find, find-each, any-find, find-any}
-use Rattle.images.proofs.Rows.{RowFits, RowRules, rules-row, row-rules, IsRow, rowFor, row-of-node, node-of-row, node-is, fields-rules}
+use Rattle.images.proofs.Rows.{RowFits, rules-row, row-rules, IsRow, rowFor, row-of-node, node-of-row, node-is, fields-rules}
 
 pub is-less : (o : Order) → not (isLess o) ≡ false → o ≡ Less
 is-less Less e = refl
@@ -43,9 +43,10 @@ not-above (some u) x t b = ap (λ (o : Order). not (isLess o)) b
 pub rows-forth : (before : Option Revision) (t : Tree) → Each IsRow t → Ascending orderRev t → Above before t → AllFalse (badRows before (map rowFor t))
 unfolding badRows rowFor
 rows-forth before [] r s b = tt
-rows-forth before (x ∷ t) r s b =
-    (or-none (badRow (rowFor x)) (rowNotAbove before (x .0)) (rules-row (rowFor x) (fields-rules x (r .0))) (not-above before x t b),
-    rows-forth (some (x .0)) t (r .1) (s .1) (s .0))
+rows-forth before (x ∷ t) r s b = (
+  or-none (badRow (rowFor x)) (rowNotAbove before (x .0)) (rules-row (rowFor x) (fields-rules x (r .0))) (not-above before x t b),
+  rows-forth (some (x .0)) t (r .1) (s .1) (s .0),
+)
 
 record RowsHold (before : Option Revision) (ws : List Row) : Type 0 where
   each : Each (λ w. badRow w ≡ false) ws
@@ -64,6 +65,7 @@ rows-back before (w ∷ ws) h = go (rows-back (some (w .rev)) ws (h .1))
     first : (b : Option Revision) → rowNotAbove b (w .rev) ≡ false → Above b (nodeIn w ∷ map nodeIn ws)
     first none e = tt
     first (some u) e = is-less (orderRev u (w .rev)) e
+
     go : RowsHold (some (w .rev)) ws → RowsHold before (w ∷ ws)
     go r = record {
       each = (or-left (badRow w) (rowNotAbove before (w .rev)) (h .0), r .each);
@@ -164,11 +166,14 @@ link-forth t i v n e =
   where
     s : Ascending orderRev t
     s = i .ascending
+
     rows : Each IsRow t
     rows = tree-rows t i
+
     parents : (p : Option Revision) → n .parent ≡ p → maybe false (λ u. not (knownTest t s rows u)) p ≡ false
     parents none q = refl
     parents (some u) q = ap not (known-any t s rows u (i .parents v u (n, e, q)))
+
     kinds : (b : Bool) → childTest t s rows v ≡ b → (c : Option Content) → n .content ≡ c → pick b (not (eqb (kindOf c) 0)) (eqb (kindOf c) 0) ≡ false
     kinds true p none q = refl
     kinds true p (some c) q = absurd (i .leaves v .0 (c, (n, e, q)) .1 (any-child t s rows v p))
@@ -182,11 +187,12 @@ link-forth t i v n e =
 -- the rows of a tree meet the rules 25 and 26
 pub tree-forth : (t : Tree) → IsTree t → AllFalse (badRows none (map rowFor t)) × AllFalse (badLinks (map rowFor t))
 unfolding badLinks
-tree-forth t i =
-    (rows-forth none t (tree-rows t i) (i .ascending) tt,
-    each-onto (λ b. b ≡ false) (badLink (map rowFor t)) (map rowFor t)
-    (each-onto (λ w. badLink (map rowFor t) w ≡ false) rowFor t
-    (find-each revOrder (λ x. badLink (map rowFor t) (rowFor x) ≡ false) t (i .ascending) (link-forth t i))))
+tree-forth t i = (
+  rows-forth none t (tree-rows t i) (i .ascending) tt,
+  each-onto (λ b. b ≡ false) (badLink (map rowFor t)) (map rowFor t)
+      (each-onto (λ w. badLink (map rowFor t) w ≡ false) rowFor t
+      (find-each revOrder (λ x. badLink (map rowFor t) (rowFor x) ≡ false) t (i .ascending) (link-forth t i))),
+)
 
 -- rows that meet 26 are those of a tree
 tree-from : (t : Tree) → Ascending orderRev t → 1 ≤ length t → Each IsRow t → AllFalse (badLinks (map rowFor t)) → IsTree t
@@ -203,21 +209,27 @@ tree-from t s least rows h = record {
   where
     row : (v : Revision) (n : Node) → find orderRev v t ≡ some n → IsRow (v, n)
     row v n e = each-find revOrder IsRow t rows v n e
+
     links : Each (λ x. badLink (map rowFor t) (rowFor x) ≡ false) t
     links = each-from (λ w. badLink (map rowFor t) w ≡ false) rowFor t (each-from (λ b. b ≡ false) (badLink (map rowFor t)) (map rowFor t) h)
+
     parents-known : (v : Revision) (n : Node) → find orderRev v t ≡ some n → maybe false (λ p. not (knownTest t s rows p)) (parentOfRow (rowFor (v, n))) ≡ false
     parents-known v n e = or-left (maybe false (λ p. not (knownTest t s rows p)) (parentOfRow (rowFor (v, n)))) (pick (childTest t s rows v) (not (eqb (kindOf (n .content)) 0)) (eqb (kindOf (n .content)) 0)) (each-find revOrder (λ x. badLink (map rowFor t) (rowFor x) ≡ false) t links v n e)
+
     kind-fits : (v : Revision) (n : Node) → find orderRev v t ≡ some n → pick (childTest t s rows v) (not (eqb (kindOf (n .content)) 0)) (eqb (kindOf (n .content)) 0) ≡ false
     kind-fits v n e = or-right (maybe false (λ p. not (knownTest t s rows p)) (parentOfRow (rowFor (v, n)))) (pick (childTest t s rows v) (not (eqb (kindOf (n .content)) 0)) (eqb (kindOf (n .content)) 0)) (each-find revOrder (λ x. badLink (map rowFor t) (rowFor x) ≡ false) t links v n e)
+
     parent : (v : Revision) (n : Node) → find orderRev v t ≡ some n → (p : Revision) → n .parent ≡ some p → knownTest t s rows p ≡ true
     parent v n e p q =
         not-false (knownTest t s rows p)
         (ap (maybe false (λ u. not (knownTest t s rows u))) (sym (row-parent (v, n) (row v n e) ∙ q)) ∙ parents-known v n e)
+
     with-content : (v : Revision) (c : Content) (n : Node) → find orderRev v t ≡ some n → n .content ≡ some c → HasChild t v → ⊥
     with-content v c n e q k =
         let a : not (eqb (kindOf (n .content)) 0) ≡ false =
-            ap (λ (b : Bool). pick b (not (eqb (kindOf (n .content)) 0)) (eqb (kindOf (n .content)) 0)) (sym (child-any t s rows v k)) ∙ kind-fits v n e in
+        ap (λ (b : Bool). pick b (not (eqb (kindOf (n .content)) 0)) (eqb (kindOf (n .content)) 0)) (sym (child-any t s rows v k)) ∙ kind-fits v n e in
         true≢false (sym (not-false (eqb (kindOf (n .content)) 0) a) ∙ (ap (λ (o : Option Content). eqb (kindOf o) 0) q ∙ kind-some c))
+
     without-child : (v : Revision) (n : Node) → find orderRev v t ≡ some n → (HasChild t v → ⊥) → (c : Content) × HasContent t v c
     without-child v n e k = go (childTest t s rows v) refl
       where
@@ -225,7 +237,7 @@ tree-from t s least rows h = record {
         go true p = absurd (k (any-child t s rows v p))
         go false p =
             let a : eqb (kindOf (n .content)) 0 ≡ false =
-                ap (λ (b : Bool). pick b (not (eqb (kindOf (n .content)) 0)) (eqb (kindOf (n .content)) 0)) (sym p) ∙ kind-fits v n e in
+            ap (λ (b : Bool). pick b (not (eqb (kindOf (n .content)) 0)) (eqb (kindOf (n .content)) 0)) (sym p) ∙ kind-fits v n e in
             let f = content-of (n .content) a in
             (f .0, (n, e, f .1))
 
@@ -234,13 +246,16 @@ pub tree-back : (ws : List Row) → Each RowFits ws → 1 ≤ length ws → AllF
     → IsTree (map nodeIn ws) × (map rowFor (map nodeIn ws) ≡ ws)
 tree-back ws fits least a b =
     let r = rows-back none ws a in
-    let same : map rowFor (map nodeIn ws) ≡ ws = map-map nodeIn rowFor ws ∙ map-id (λ w. rowFor (nodeIn w)) ws (sames ws fits (r .each)) in
-    (tree-from (map nodeIn ws) (r .ascending) (subst (λ (n : ℕ). 1 ≤ n) (sym (length-map ws nodeIn)) least)
-    (each-onto IsRow nodeIn ws (nodes ws fits (r .each))) (subst (λ (l : List Row). AllFalse (badLinks l)) (sym same) b), same)
+    let same : map rowFor (map nodeIn ws) ≡ ws = map-map nodeIn rowFor ws ∙ map-id (λ w. rowFor (nodeIn w)) ws (sames ws fits (r .each)) in (
+      tree-from (map nodeIn ws) (r .ascending) (subst (λ (n : ℕ). 1 ≤ n) (sym (length-map ws nodeIn)) least)
+          (each-onto IsRow nodeIn ws (nodes ws fits (r .each))) (subst (λ (l : List Row). AllFalse (badLinks l)) (sym same) b),
+      same,
+    )
   where
     sames : (xs : List Row) → Each RowFits xs → Each (λ w. badRow w ≡ false) xs → Each (λ w. rowFor (nodeIn w) ≡ w) xs
     sames [] f g = tt
     sames (x ∷ xs) f g = (node-of-row x (f .0) (row-rules x (g .0)), sames xs (f .1) (g .1))
+
     nodes : (xs : List Row) → Each RowFits xs → Each (λ w. badRow w ≡ false) xs → Each (λ w. IsRow (nodeIn w)) xs
     nodes [] f g = tt
     nodes (x ∷ xs) f g = (node-is x (f .0) (row-rules x (g .0)), nodes xs (f .1) (g .1))
