@@ -1,16 +1,16 @@
 -- One row of 48 bytes: its bytes are read back, its fields are written back, and a row that is not bad is
 -- one known revision. Assumes nothing.
-use mathlib.Core.Path.{_≡_, refl, sym, ap, ap₂, _∙_, subst}
-use mathlib.Core.Bool.{Bool, true, false, not, _&&_, _||_}
-use mathlib.Core.List.{List, [], _∷_, _++_, append-assoc, append-nil}
+use mathlib.Core.Path.{_≡_, refl, sym, ap, _∙_, subst}
+use mathlib.Core.Bool.{Bool, true, false, not, _&&_}
+use mathlib.Core.List.{List, [], _∷_, _++_, append-nil}
 use mathlib.Core.Logic.{_≢_}
 use mathlib.Core.Option.{Option, none, some}
-use Prim.Native.Nat.{ℕ, zero, suc, pred, _+_, _*_, _≤_, _<_}
+use Prim.Native.Nat.{ℕ, zero, suc, pred, _+_, _≤_, _<_}
 use native.Mathlib.Omega.{arith}
 use lib.Dec.{eqb, ltb}
-use lib.ListN.{length, getD, take, drop, replicate, length-append, length-replicate}
+use lib.ListN.{length, getD, drop, replicate, length-append}
 use lib.Seq.{drop-length}
-use borrow.Author.Tests.{ltb-true, ltb-false, eqb-true, eqb-false, not-true, not-false, lt-ltb, le-ltb, eq-eqb, ne-eqb}
+use borrow.Author.Tests.{ltb-false, eqb-true, eqb-false, not-true, not-false, le-ltb, eq-eqb, ne-eqb}
 use Rattle.rules.specs.declared.Content.{Content}
 use Rattle.rules.specs.declared.Content.the-variants.{Live, Deleted}
 use Rattle.rules.specs.declared.Revision.{Revision}
@@ -18,7 +18,7 @@ use Rattle.rules.specs.Bytes.{be, value, part, Bytes}
 use Rattle.rules.specs.Choice.{pick}
 use Rattle.rules.specs.Image.{Row, rowOf, rowBytes, badRow, parentOfRow, nodeIn, contentOfKind, kindOf, labelOf, flagOf, parentHash, allZero, rowSize}
 use Rattle.rules.specs.Replica.{Hash, revision, Node, IsRevision, IsContent}
-use Rattle.rules.specs.Room.{hashSize, last, labels}
+use Rattle.rules.specs.Room.{last, labels}
 use Rattle.rules.proofs.MapLaws.{none≢some, some-inj}
 use Rattle.images.proofs.Tests.{true≢false, none7, all7, both-none, and-none, zeros, all-zeros}
 use Rattle.rules.proofs.ByteLaws.{length-be, bytes-be, value-be, be-value-of, value-below, bytes-append, bytes-part, bytes-at, bytes-zeros, length-part, part-front, part-whole, part-past, getD-past, part-next, byte-next}

@@ -5,7 +5,7 @@ use Prim.Native.Nat.{ℕ, zero, suc, _+_, _-_, _*_, _/_, _%_, _^_, _≤_, _<_}
 use native.Mathlib.Nat.{add-zero, zero-add, suc-add, mul-le-mul-right, pow-suc}
 use native.Mathlib.Omega.{arith}
 use lib.ListN.{length, getD, take, drop, replicate, length-append, length-take, length-drop, take-append-drop}
-use lib.Seq.{take-at, drop-at, take-add, drop-drop, length-take-le, take-all, take-take, getD-append-add, drop-cons, take-nil, drop-nil}
+use lib.Seq.{take-at, drop-at, take-add, drop-drop, length-take-le, take-all, take-take, getD-append-add, drop-cons, take-nil}
 use Rattle.rules.specs.Bytes.{be, valueFrom, value, part, pieces, join, Bytes}
 
 -- ---- bytes
