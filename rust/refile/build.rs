@@ -1,12 +1,12 @@
 //! Links the proved archive, `librefile.a`.
 
 use std::env;
-use std::path::{Path, PathBuf};
+use std::path::{self, Path};
 
 fn main() {
     println!("cargo::rerun-if-env-changed=REFILE_LIB_DIR");
     let folder = match env::var_os("REFILE_LIB_DIR") {
-        Some(folder) => PathBuf::from(folder),
+        Some(folder) => path::absolute(folder).expect("REFILE_LIB_DIR names a folder"),
         None => {
             let package = env::var_os("CARGO_MANIFEST_DIR").expect("cargo names the package");
             let top = Path::new(&package).ancestors().nth(2);

@@ -104,8 +104,8 @@ impl Bench {
             sides!(leaves(&trunk, &ids[..1], 256)),
         );
         self.row(
-            "missing, 32 asked of 32 documents",
-            (None, Some(asked.len())),
+            "missing, 32 asked of each of 32 documents, half of them known",
+            (None, Some(asked[0].len())),
             sides!(missing(&mixed, &ids, &asked)),
         );
         self.check_process(&mixed);
@@ -306,13 +306,17 @@ impl std::fmt::Display for Verdict {
     }
 }
 
-/// A list of 32 revisions: those that the first two documents hold, 16 of which another document
-/// always lacks.
-fn asked(mixed: &[u8]) -> Vec<u8> {
-    let rows = &mixed[16 + 44 * DOCUMENTS..];
-    let mut asked: Vec<&[u8]> = rows.chunks(48).take(32).map(|row| &row[..20]).collect();
-    data::shuffle(&mut Random::new(20), &mut asked);
-    asked.concat()
+/// For each document a list of its own 16 revisions and 16 of the next one's, mixed.
+fn asked(mixed: &[u8]) -> Vec<Vec<u8>> {
+    let rows: Vec<&[u8]> = mixed[16 + 44 * DOCUMENTS..].chunks(48).collect();
+    let mut random = Random::new(20);
+    let list = |document: usize| {
+        let own_and_next = rows.iter().cycle().skip(16 * document).take(32);
+        let mut asked: Vec<&[u8]> = own_and_next.map(|row| &row[..20]).collect();
+        data::shuffle(&mut random, &mut asked);
+        asked.concat()
+    };
+    (0..DOCUMENTS).map(list).collect()
 }
 
 /// The proved check program and the plain one, which is built first if need be.

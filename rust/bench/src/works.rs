@@ -80,11 +80,16 @@ pub fn leaves<'a, R: Replica + 'a>(bytes: &[u8], ids: &'a [&[u8]], most: usize) 
     })
 }
 
-/// Asks each document for the same list.
-pub fn missing<'a, R: Replica + 'a>(bytes: &[u8], ids: &'a [&[u8]], asked: &'a [u8]) -> Side<'a> {
-    read(bytes, ids, asked.len() / 20, move |replica: &R, i, out| {
+/// Asks each document for its list.
+pub fn missing<'a, R: Replica + 'a>(
+    bytes: &[u8],
+    ids: &'a [&[u8]],
+    asked: &'a [Vec<u8>],
+) -> Side<'a> {
+    let room = asked[0].len() / 20;
+    read(bytes, ids, room, move |replica: &R, i, out| {
         replica
-            .missing(ids[i], asked, out)
+            .missing(ids[i], &asked[i], out)
             .expect("the list is whole")
     })
 }
