@@ -11,7 +11,7 @@ use Rattle.rules.specs.Choice.{firstThat}
 use Rattle.rules.specs.Image.{Head, Entry, Row, headOf, entriesOf, rowsOf, deal, documentsIn, replicaIn, rowBytes, headBytes, contentsBytes, bodyBytes, image, faults, totalLength, sumRows, largest, inEach, badRows, badLinks}
 use Rattle.rules.specs.Map.{Map}
 use Rattle.rules.specs.Replica.{Id, Tree, Document, Replica, documentOf, revisionsHeld, IsReplica}
-use Rattle.rules.specs.Room.{last}
+use Rattle.rules.specs.Room.{documentsMost, revisionsMost, last}
 use Rattle.rules.proofs.ByteLaws.{join-append}
 use Rattle.rules.proofs.OrderLaws.{bytesOrder}
 use Rattle.images.proofs.Lists.{Each, each-onto, each-from, map-append}
@@ -215,8 +215,8 @@ module _ (s : List ℕ) (p : Bytes s) (e : firstThat (faults s) ≡ none) where
               seq-least = each-find bytesOrder (λ x. 1 ≤ seqOf x) ds (each-from (λ n. 1 ≤ n) seqOf ds (seqs-held .0)) k d q;
               seq-own = λ j x u m. own-back ds (seqs-held .1) k j d x q u m;
             };
-        documents-most = subst (λ (n : ℕ). n ≤ 32) (sym documents-count) (rules .documents);
-        revisions-most = subst (λ (n : ℕ). n ≤ 512) (sym revisions-count) (rules .revisions);
+        documents-most = subst (λ (n : ℕ). n ≤ documentsMost) (sym documents-count) (rules .documents);
+        revisions-most = subst (λ (n : ℕ). n ≤ revisionsMost) (sym revisions-count) (rules .revisions);
         seq-largest = seq-is ∙ (rules .largest ∙ (ap largest (sym (held .entries)) ∙ largest-entriesFor due ds));
         seq-most = subst (λ (n : ℕ). n ≤ last) (sym seq-is) (let h = image-fits s p size .head .seq in omega arith);
       }

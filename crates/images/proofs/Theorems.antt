@@ -13,6 +13,7 @@ use Rattle.rules.specs.Bytes.{Bytes}
 use Rattle.rules.specs.Choice.{firstThat}
 use Rattle.rules.specs.Image.{image, faults, replicaIn, loadAs, load, totalLength}
 use Rattle.rules.specs.Replica.{Replica, revisionsHeld, IsReplica}
+use Rattle.rules.specs.Room.{documentsMost, revisionsMost}
 use Rattle.images.proofs.Rules.{NoneHolds, none-holds, holds-none, IsFirst, first-is, is-first}
 use Rattle.images.proofs.Replicas.{length-image, bytes-image, image-faultless, image-read, held-replica, held-image}
 
@@ -89,9 +90,12 @@ pub image-length : (r : Replica) → IsReplica r → length (image r) ≡ totalL
 image-length = length-image
 
 -- "The largest image has 26,000 bytes."
-pub image-most : (r : Replica) → IsReplica r → length (image r) ≤ 26000
+pub image-most : (r : Replica) → IsReplica r → length (image r) ≤ totalLength documentsMost revisionsMost
 image-most r i =
     let n = length-image r i in
     let d = i .documents-most in
     let v = i .revisions-most in
     omega arith
+
+pub largest-image : totalLength documentsMost revisionsMost ≡ 26000
+largest-image = refl
