@@ -8,11 +8,11 @@ use native.Mathlib.Omega.{arith}
 use lib.ListN.{length, take, drop, length-append, length-map, length-drop, take-append-drop}
 use lib.Seq.{take-at, drop-at, length-take-le}
 use Rattle.rules.specs.declared.Order.{Order}
-use Rattle.rules.specs.Image.{Entry, Row, nodeIn, badEntries, notAbove, largest, sumRows, deal, badRows, badLinks, inEach, documentsIn}
+use Rattle.rules.specs.Image.{Entry, Row, nodeIn, badEntries, notAbove, largest, sumRows, deal, badRows, badLinks, inEach, documentsIn, totalLength}
 use Rattle.rules.specs.Map.{Map, Below, Ascending}
 use Rattle.rules.specs.Order.{orderBytes, isLess}
 use Rattle.rules.specs.Replica.{Id, Document, revisionsHeld, largestSeq, IsId, IsTree}
-use Rattle.rules.specs.Room.{last}
+use Rattle.rules.specs.Room.{documentsMost, revisionsMost, last}
 use Rattle.images.proofs.Tests.{AllFalse}
 use Rattle.images.proofs.Lists.{Each, each-map, each-onto, each-append, each-take, each-drop, map-map, map-id}
 use Rattle.images.proofs.Rows.{RowFits, IsRow, rowFor, row-of-node, fields-fit}
@@ -89,7 +89,7 @@ pub record EntriesHold (place : ℕ) (before : Option Id) (es : List Entry) : Ty
   pub small : Each (λ e. e .size ≤ 32) es
 
 pub entries-forth : (place : ℕ) (before : Option Id) (ds : Map Id Document) → Each IsDoc ds → Ascending orderBytes ds → AboveId before ds
-    → place + 48 * revisionsHeld ds ≤ 26000 → largestSeq ds ≤ last → EntriesHold place before (entriesFor place ds)
+    → place + 48 * revisionsHeld ds ≤ totalLength documentsMost revisionsMost → largestSeq ds ≤ last → EntriesHold place before (entriesFor place ds)
 unfolding entriesFor entryFor badEntries revisionsHeld largestSeq
 entries-forth place before [] r s b room most = record { clear = tt; fits = tt; small = tt }
 entries-forth place before (d ∷ ds) r s b room most =

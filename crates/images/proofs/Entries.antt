@@ -2,20 +2,20 @@
 -- one document's. Assumes nothing.
 use mathlib.Core.Path.{_≡_, refl, sym, ap, _∙_, subst}
 use mathlib.Core.Bool.{true, false, not}
-use mathlib.Core.List.{List, [], _∷_, _++_, append-assoc, append-nil}
+use mathlib.Core.List.{List, [], _∷_, _++_, append-assoc}
 use mathlib.Core.Logic.{_≢_}
 use mathlib.Core.Option.{Option}
 use Prim.Native.Nat.{ℕ, zero, _+_, _-_, _≤_, _<_}
 use native.Mathlib.Omega.{arith}
 use lib.Dec.{eqb, ltb}
 use lib.ListN.{length, getD, take, drop, replicate, length-append, length-replicate, length-take, take-append-drop}
-use lib.Seq.{drop-length, take-at, drop-at}
+use lib.Seq.{take-at, drop-at}
 use borrow.Author.Tests.{ltb-false, eqb-true, eqb-false, not-false, le-ltb, eq-eqb, ne-eqb}
 use Rattle.rules.specs.Bytes.{be, value, part, Bytes}
 use Rattle.rules.specs.Image.{Entry, entryOf, entryBytes, badEntry, notAbove, allZero, entrySize}
 use Rattle.rules.specs.Replica.{Id, Document, IsId}
 use Rattle.rules.specs.Room.{idMost, last}
-use Rattle.rules.proofs.ByteLaws.{length-be, bytes-be, value-be, be-value-of, value-below, bytes-append, bytes-take, bytes-drop, bytes-part, bytes-at, bytes-zeros, length-part, part-front, part-whole, part-past, getD-past, part-next, byte-next}
+use Rattle.rules.proofs.ByteLaws.{length-be, bytes-be, value-be, value-below, bytes-append, bytes-take, bytes-drop, bytes-part, bytes-at, bytes-zeros, length-part, part-front, part-whole, part-past, getD-past, part-next, byte-next, number-next, number-last}
 use Rattle.images.proofs.Tests.{none7, all7, zeros, all-zeros}
 
 -- ---- fields and bytes
@@ -111,21 +111,20 @@ module _ (b : List ℕ) (p : Bytes b) (size : length b ≡ 44) where
   unfolding entryWith entryOf
   entry-written =
       let n : ℕ = getD b 0 0 in
-      let number : (k w m : ℕ) → k + w ≡ m → m ≤ 44 → be w (value (part k w b)) ++ drop m b ≡ drop k b =
-      λ k w m e h. ap (λ (l : List ℕ). l ++ drop m b) (be-value-of w (part k w b) (length-part k w b (omega arith)) (bytes-part k w b p)) ∙ sym (part-next k w m b e) in
-      let e40 : be 4 (value (part 40 4 b)) ≡ drop 40 b =
-      sym (append-nil (be 4 (value (part 40 4 b))))
-      ∙ (ap (λ (l : List ℕ). be 4 (value (part 40 4 b)) ++ l) (sym (drop-length b) ∙ ap (λ (k : ℕ). drop k b) size) ∙ number 40 4 44 refl (omega arith)) in
-      let e36 : be 4 (value (part 36 4 b)) ++ be 4 (value (part 40 4 b)) ≡ drop 36 b =
-      ap (λ (l : List ℕ). be 4 (value (part 36 4 b)) ++ l) e40 ∙ number 36 4 40 refl (omega arith) in
-      let e34 : be 2 (value (part 34 2 b)) ++ (be 4 (value (part 36 4 b)) ++ be 4 (value (part 40 4 b))) ≡ drop 34 b =
-      ap (λ (l : List ℕ). be 2 (value (part 34 2 b)) ++ l) e36 ∙ number 34 2 36 refl (omega arith) in
-      let t : List ℕ = getD b 33 0 ∷ (be 2 (value (part 34 2 b)) ++ (be 4 (value (part 36 4 b)) ++ be 4 (value (part 40 4 b)))) in
-      let e33 : t ≡ drop 33 b = ap {B = List ℕ} (λ l. getD b 33 0 ∷ l) e34 ∙ sym (byte-next 33 34 b refl (omega arith)) in
-      let e1 : take n (part 1 32 b) ++ (drop n (part 1 32 b) ++ t) ≡ drop 1 b =
-      sym (append-assoc (take n (part 1 32 b)) (drop n (part 1 32 b)) t)
-      ∙ (ap (λ (l : List ℕ). l ++ t) (take-append-drop n (part 1 32 b))
-      ∙ (ap (λ (l : List ℕ). part 1 32 b ++ l) e33 ∙ sym (part-next 1 32 33 b refl))) in
+      let I : List ℕ = part 1 32 b in
+      let R : List ℕ = be 2 (value (part 34 2 b)) in
+      let S : List ℕ = be 4 (value (part 36 4 b)) in
+      let P : List ℕ = be 4 (value (part 40 4 b)) in
+      let e40 : P ≡ drop 40 b = number-last 40 4 b p (sym size) in
+      let e36 : S ++ P ≡ drop 36 b = ap (λ (l : List ℕ). S ++ l) e40 ∙ number-next 36 4 40 b p refl (omega arith) in
+      let e34 : R ++ (S ++ P) ≡ drop 34 b = ap (λ (l : List ℕ). R ++ l) e36 ∙ number-next 34 2 36 b p refl (omega arith) in
+      let t : List ℕ = getD b 33 0 ∷ (R ++ (S ++ P)) in
+      let e33 : t ≡ drop 33 b =
+      ap {B = List ℕ} (λ l. getD b 33 0 ∷ l) e34 ∙ sym (byte-next 33 34 b refl (omega arith)) in
+      let e1 : take n I ++ (drop n I ++ t) ≡ drop 1 b =
+      sym (append-assoc (take n I) (drop n I) t)
+      ∙ (ap (λ (l : List ℕ). l ++ t) (take-append-drop n I)
+      ∙ (ap (λ (l : List ℕ). I ++ l) e33 ∙ sym (part-next 1 32 33 b refl))) in
       ap {B = List ℕ} (λ l. n ∷ l) e1 ∙ sym (byte-next 0 1 b refl (omega arith))
 
 -- ---- an entry that is not bad

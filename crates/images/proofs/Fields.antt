@@ -8,7 +8,7 @@ use lib.ListN.{length, drop, length-append, length-drop, length-map, take-append
 use lib.Seq.{drop-at, drop-drop, take-all}
 use Rattle.rules.specs.Bytes.{be, value, part, pieces, join, Bytes}
 use Rattle.rules.specs.Image.{Head, headOf, Entry, entryOf, Row, rowOf, entriesOf, rowsOf, totalLength}
-use Rattle.rules.proofs.ByteLaws.{length-be, bytes-be, value-be, be-value-of, value-below, bytes-append, bytes-drop, bytes-part, length-part, part-front, part-past, part-next, length-pieces}
+use Rattle.rules.proofs.ByteLaws.{length-be, bytes-be, value-be, value-below, bytes-append, bytes-drop, bytes-part, length-part, part-front, part-past, number-next, length-pieces}
 use Rattle.images.proofs.Lists.{Each, each-map, each-onto, each-piece, length-all, bytes-all, read-all, write-all}
 use Rattle.images.proofs.Rows.{rowWith, RowFits, length-rowWith, bytes-rowWith, row-read, row-fits, row-written}
 use Rattle.images.proofs.Entries.{entryWith, EntryFits, length-entryWith, bytes-entryWith, entry-read, entry-fits, entry-written}
@@ -92,23 +92,22 @@ module _ (s : List ℕ) (p : Bytes s) (size : 16 ≤ length s) where
   pub head-written : headWith (headOf s) ++ drop 16 s ≡ s
   unfolding headWith headOf
   head-written =
-      let number : (k n m : ℕ) (t : List ℕ) → k + n ≡ m → m ≤ 16 → t ++ drop 16 s ≡ drop m s → (be n (value (part k n s)) ++ t) ++ drop 16 s ≡ drop k s =
+      let step : (k n m : ℕ) (t : List ℕ) → k + n ≡ m → m ≤ 16 → t ++ drop 16 s ≡ drop m s
+      → (be n (value (part k n s)) ++ t) ++ drop 16 s ≡ drop k s =
       λ k n m t e h q.
       append-assoc (be n (value (part k n s))) t (drop 16 s)
-      ∙ (ap (λ (l : List ℕ). be n (value (part k n s)) ++ l) q
-      ∙ (ap (λ (l : List ℕ). l ++ drop m s) (be-value-of n (part k n s) (length-part k n s (omega arith)) (bytes-part k n s p))
-      ∙ sym (part-next k n m s e))) in
-      let T : List ℕ = be 4 (value (part 12 4 s)) in
-      let e12 : T ++ drop 16 s ≡ drop 12 s = ap (λ (l : List ℕ). l ++ drop 16 s) (sym (append-nil T)) ∙ number 12 4 16 [] refl (omega arith) refl in
-      let t8 : List ℕ = be 4 (value (part 8 4 s)) ++ T in
-      let e8 : t8 ++ drop 16 s ≡ drop 8 s = number 8 4 12 T refl (omega arith) e12 in
+      ∙ (ap (λ (l : List ℕ). be n (value (part k n s)) ++ l) q ∙ number-next k n m s p e (omega arith)) in
+      let t12 : List ℕ = be 4 (value (part 12 4 s)) in
+      let t8 : List ℕ = be 4 (value (part 8 4 s)) ++ t12 in
       let t6 : List ℕ = be 2 (value (part 6 2 s)) ++ t8 in
-      let e6 : t6 ++ drop 16 s ≡ drop 6 s = number 6 2 8 t8 refl (omega arith) e8 in
       let t4 : List ℕ = be 2 (value (part 4 2 s)) ++ t6 in
-      let e4 : t4 ++ drop 16 s ≡ drop 4 s = number 4 2 6 t6 refl (omega arith) e6 in
       let t2 : List ℕ = be 2 (value (part 2 2 s)) ++ t4 in
-      let e2 : t2 ++ drop 16 s ≡ drop 2 s = number 2 2 4 t4 refl (omega arith) e4 in
-      number 0 2 2 t2 refl (omega arith) e2
+      let e12 : t12 ++ drop 16 s ≡ drop 12 s = number-next 12 4 16 s p refl (omega arith) in
+      let e8 : t8 ++ drop 16 s ≡ drop 8 s = step 8 4 12 t12 refl (omega arith) e12 in
+      let e6 : t6 ++ drop 16 s ≡ drop 6 s = step 6 2 8 t8 refl (omega arith) e8 in
+      let e4 : t4 ++ drop 16 s ≡ drop 4 s = step 4 2 6 t6 refl (omega arith) e6 in
+      let e2 : t2 ++ drop 16 s ≡ drop 2 s = step 2 2 4 t4 refl (omega arith) e4 in
+      step 0 2 2 t2 refl (omega arith) e2
 
 -- ---- the whole
 

@@ -10,4 +10,5 @@ pub mod Sequences
 pub mod Documents
 pub mod Rules
 pub mod Replicas
+pub mod Bridges
 pub mod Theorems

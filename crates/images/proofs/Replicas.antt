@@ -11,7 +11,7 @@ use Rattle.rules.specs.Choice.{firstThat}
 use Rattle.rules.specs.Image.{Head, Entry, Row, headOf, entriesOf, rowsOf, deal, documentsIn, replicaIn, rowBytes, headBytes, contentsBytes, bodyBytes, image, faults, totalLength, sumRows, largest, inEach, badRows, badLinks}
 use Rattle.rules.specs.Map.{Map}
 use Rattle.rules.specs.Replica.{Id, Tree, Document, Replica, documentOf, revisionsHeld, IsReplica}
-use Rattle.rules.specs.Room.{last}
+use Rattle.rules.specs.Room.{documentsMost, revisionsMost, last}
 use Rattle.rules.proofs.ByteLaws.{join-append}
 use Rattle.rules.proofs.OrderLaws.{bytesOrder}
 use Rattle.images.proofs.Lists.{Each, each-onto, each-from, map-append}
@@ -40,6 +40,10 @@ headFor r = record {
 abbrev bodies : Map Id Document → ℕ
 bodies ds = 16 + 44 * length ds
 
+-- a replica's entries
+abbrev entriesFrom : Replica → List Entry
+entriesFrom r = entriesFor (bodies (r .documents)) (r .documents)
+
 contents-fields : (due : ℕ) (ds : Map Id Document) → contentsBytes due ds ≡ join (map entryWith (entriesFor due ds))
 unfolding contentsBytes entriesFor join
 contents-fields due [] = refl
@@ -58,7 +62,7 @@ body-fields (d ∷ ds) =
     tree [] = refl
     tree (v ∷ t) = ap₂ (λ (a b : List ℕ). a ++ b) (rowBytes-fields v) (tree t)
 
-pub image-fields : (r : Replica) → image r ≡ imageWith (headFor r) (entriesFor (bodies (r .documents)) (r .documents)) (rowsFor (r .documents))
+pub image-fields : (r : Replica) → image r ≡ imageWith (headFor r) (entriesFrom r) (rowsFor (r .documents))
 unfolding image imageWith headBytes headWith headFor
 image-fields r =
     ap₂ (λ (a b : List ℕ). headWith (headFor r) ++ (a ++ b)) (contents-fields (bodies (r .documents)) (r .documents)) (body-fields (r .documents))
@@ -79,7 +83,7 @@ module _ (r : Replica) (i : IsReplica r) where
   unfolding documentOf
   seqs-distinct = own-forth (r .documents) (i .ascending) λ k j d e p q m. i .documents k d p .seq-own j e q m
 
-  hold : EntriesHold (bodies (r .documents)) none (entriesFor (bodies (r .documents)) (r .documents))
+  hold : EntriesHold (bodies (r .documents)) none (entriesFrom r)
   hold =
       let a = i .documents-most in
       let b = i .revisions-most in
@@ -87,7 +91,7 @@ module _ (r : Replica) (i : IsReplica r) where
       let e = i .seq-largest in
       entries-forth (bodies (r .documents)) none (r .documents) docs-each (i .ascending) tt (omega arith) (omega arith)
 
-  fits : Fits (headFor r) (entriesFor (bodies (r .documents)) (r .documents)) (rowsFor (r .documents))
+  fits : Fits (headFor r) (entriesFrom r) (rowsFor (r .documents))
   unfolding headFor
   fits =
       let a = i .documents-most in
@@ -109,7 +113,7 @@ module _ (r : Replica) (i : IsReplica r) where
       }
 
   meets : Meets (totalLength (length (r .documents)) (revisionsHeld (r .documents))) (headFor r)
-      (entriesFor (bodies (r .documents)) (r .documents)) (rowsFor (r .documents))
+      (entriesFrom r) (rowsFor (r .documents))
   unfolding headFor
   meets =
       let ds : Map Id Document = r .documents in
@@ -134,20 +138,20 @@ module _ (r : Replica) (i : IsReplica r) where
 
   -- its fields are read back
   head-of : headOf (image r) ≡ headFor r
-  head-of = ap headOf (image-fields r) ∙ image-head (headFor r) (entriesFor (bodies (r .documents)) (r .documents)) (rowsFor (r .documents)) fits
+  head-of = ap headOf (image-fields r) ∙ image-head (headFor r) (entriesFrom r) (rowsFor (r .documents)) fits
 
-  entries-of : entriesOf (image r) ≡ entriesFor (bodies (r .documents)) (r .documents)
-  entries-of = ap entriesOf (image-fields r) ∙ image-entries (headFor r) (entriesFor (bodies (r .documents)) (r .documents)) (rowsFor (r .documents)) fits (hold .small)
+  entries-of : entriesOf (image r) ≡ entriesFrom r
+  entries-of = ap entriesOf (image-fields r) ∙ image-entries (headFor r) (entriesFrom r) (rowsFor (r .documents)) fits (hold .small)
 
   rows-of : rowsOf (image r) ≡ rowsFor (r .documents)
-  rows-of = ap rowsOf (image-fields r) ∙ image-rows (headFor r) (entriesFor (bodies (r .documents)) (r .documents)) (rowsFor (r .documents)) fits
+  rows-of = ap rowsOf (image-fields r) ∙ image-rows (headFor r) (entriesFrom r) (rowsFor (r .documents)) fits
 
   pub length-image : length (image r) ≡ totalLength (length (r .documents)) (revisionsHeld (r .documents))
   unfolding headFor
-  length-image = ap length (image-fields r) ∙ length-imageWith (headFor r) (entriesFor (bodies (r .documents)) (r .documents)) (rowsFor (r .documents)) fits
+  length-image = ap length (image-fields r) ∙ length-imageWith (headFor r) (entriesFrom r) (rowsFor (r .documents)) fits
 
   pub bytes-image : Bytes (image r)
-  bytes-image = subst Bytes (sym (image-fields r)) (bytes-imageWith (headFor r) (entriesFor (bodies (r .documents)) (r .documents)) (rowsFor (r .documents)) fits)
+  bytes-image = subst Bytes (sym (image-fields r)) (bytes-imageWith (headFor r) (entriesFrom r) (rowsFor (r .documents)) fits)
 
   pub image-faultless : firstThat (faults (image r)) ≡ none
   image-faultless = meets-faults (image r) (rw (length-image, head-of, entries-of, rows-of) meets)
@@ -211,8 +215,8 @@ module _ (s : List ℕ) (p : Bytes s) (e : firstThat (faults s) ≡ none) where
               seq-least = each-find bytesOrder (λ x. 1 ≤ seqOf x) ds (each-from (λ n. 1 ≤ n) seqOf ds (seqs-held .0)) k d q;
               seq-own = λ j x u m. own-back ds (seqs-held .1) k j d x q u m;
             };
-        documents-most = subst (λ (n : ℕ). n ≤ 32) (sym documents-count) (rules .documents);
-        revisions-most = subst (λ (n : ℕ). n ≤ 512) (sym revisions-count) (rules .revisions);
+        documents-most = subst (λ (n : ℕ). n ≤ documentsMost) (sym documents-count) (rules .documents);
+        revisions-most = subst (λ (n : ℕ). n ≤ revisionsMost) (sym revisions-count) (rules .revisions);
         seq-largest = seq-is ∙ (rules .largest ∙ (ap largest (sym (held .entries)) ∙ largest-entriesFor due ds));
         seq-most = subst (λ (n : ℕ). n ≤ last) (sym seq-is) (let h = image-fits s p size .head .seq in omega arith);
       }

@@ -2,14 +2,13 @@
 -- one known revision. Assumes nothing.
 use mathlib.Core.Path.{_≡_, refl, sym, ap, _∙_, subst}
 use mathlib.Core.Bool.{Bool, true, false, not, _&&_}
-use mathlib.Core.List.{List, [], _∷_, _++_, append-nil}
+use mathlib.Core.List.{List, [], _∷_, _++_}
 use mathlib.Core.Logic.{_≢_}
 use mathlib.Core.Option.{Option, none, some}
 use Prim.Native.Nat.{ℕ, zero, suc, pred, _+_, _≤_, _<_}
 use native.Mathlib.Omega.{arith}
 use lib.Dec.{eqb, ltb}
 use lib.ListN.{length, getD, drop, replicate, length-append}
-use lib.Seq.{drop-length}
 use borrow.Author.Tests.{ltb-false, eqb-true, eqb-false, not-true, not-false, le-ltb, eq-eqb, ne-eqb}
 use Rattle.rules.specs.declared.Content.{Content}
 use Rattle.rules.specs.declared.Content.the-variants.{Live, Deleted}
@@ -21,7 +20,7 @@ use Rattle.rules.specs.Replica.{Hash, revision, Node, IsRevision, IsContent}
 use Rattle.rules.specs.Room.{last, labels}
 use Rattle.rules.proofs.MapLaws.{none≢some, some-inj}
 use Rattle.images.proofs.Tests.{true≢false, none7, all7, both-none, and-none, zeros, all-zeros}
-use Rattle.rules.proofs.ByteLaws.{length-be, bytes-be, value-be, be-value-of, value-below, bytes-append, bytes-part, bytes-at, bytes-zeros, length-part, part-front, part-whole, part-past, getD-past, part-next, byte-next}
+use Rattle.rules.proofs.ByteLaws.{length-be, bytes-be, value-be, value-below, bytes-append, bytes-part, bytes-at, bytes-zeros, length-part, part-front, part-whole, part-past, getD-past, part-next, byte-next, number-next, number-last}
 
 -- ---- fields and bytes
 
@@ -122,16 +121,20 @@ module _ (b : List ℕ) (p : Bytes b) (size : length b ≡ 48) where
   pub row-written : rowWith (rowOf b) ≡ b
   unfolding rowWith rowOf
   row-written =
-      let number : (k n m : ℕ) → k + n ≡ m → m ≤ 48 → be n (value (part k n b)) ++ drop m b ≡ drop k b =
-      λ k n m e h. ap (λ (l : List ℕ). l ++ drop m b) (be-value-of n (part k n b) (length-part k n b (omega arith)) (bytes-part k n b p)) ∙ sym (part-next k n m b e) in
-      let e40 : be 8 (value (part 40 8 b)) ≡ drop 40 b = sym (append-nil (be 8 (value (part 40 8 b)))) ∙ (ap (λ (l : List ℕ). be 8 (value (part 40 8 b)) ++ l) (sym (drop-length b) ∙ ap (λ (k : ℕ). drop k b) size) ∙ number 40 8 48 refl (omega arith)) in
-      let e24 : part 24 16 b ++ be 8 (value (part 40 8 b)) ≡ drop 24 b = ap (λ (l : List ℕ). part 24 16 b ++ l) e40 ∙ sym (part-next 24 16 40 b refl) in
-      let e22 : be 2 (value (part 22 2 b)) ++ (part 24 16 b ++ be 8 (value (part 40 8 b))) ≡ drop 22 b = ap (λ (l : List ℕ). be 2 (value (part 22 2 b)) ++ l) e24 ∙ number 22 2 24 refl (omega arith) in
-      let e20 : _≡_ {A = List ℕ} (getD b 20 0 ∷ getD b 21 0 ∷ (be 2 (value (part 22 2 b)) ++ (part 24 16 b ++ be 8 (value (part 40 8 b))))) (drop 20 b) =
-      ap {B = List ℕ} (λ l. getD b 20 0 ∷ getD b 21 0 ∷ l) e22
-      ∙ (ap {B = List ℕ} (λ l. getD b 20 0 ∷ l) (sym (byte-next 21 22 b refl (omega arith))) ∙ sym (byte-next 20 21 b refl (omega arith))) in
+      let N : List ℕ = be 4 (value (part 0 4 b)) in
+      let Z : List ℕ = be 2 (value (part 22 2 b)) in
+      let L : List ℕ = be 8 (value (part 40 8 b)) in
+      let e40 : L ≡ drop 40 b = number-last 40 8 b p (sym size) in
+      let e24 : part 24 16 b ++ L ≡ drop 24 b =
+      ap (λ (l : List ℕ). part 24 16 b ++ l) e40 ∙ sym (part-next 24 16 40 b refl) in
+      let e22 : Z ++ (part 24 16 b ++ L) ≡ drop 22 b =
+      ap (λ (l : List ℕ). Z ++ l) e24 ∙ number-next 22 2 24 b p refl (omega arith) in
+      let e21 : _≡_ {A = List ℕ} (getD b 21 0 ∷ (Z ++ (part 24 16 b ++ L))) (drop 21 b) =
+      ap {B = List ℕ} (λ l. getD b 21 0 ∷ l) e22 ∙ sym (byte-next 21 22 b refl (omega arith)) in
+      let e20 : _≡_ {A = List ℕ} (getD b 20 0 ∷ getD b 21 0 ∷ (Z ++ (part 24 16 b ++ L))) (drop 20 b) =
+      ap {B = List ℕ} (λ l. getD b 20 0 ∷ l) e21 ∙ sym (byte-next 20 21 b refl (omega arith)) in
       let e4 = ap (λ (l : List ℕ). part 4 16 b ++ l) e20 ∙ sym (part-next 4 16 20 b refl) in
-      ap (λ (l : List ℕ). be 4 (value (part 0 4 b)) ++ l) e4 ∙ number 0 4 4 refl (omega arith)
+      ap (λ (l : List ℕ). N ++ l) e4 ∙ number-next 0 4 4 b p refl (omega arith)
 
 -- ---- a row that is not bad
 

@@ -12,6 +12,7 @@ use Rattle.rules.specs.declared.Fault.{Fault}
 use Rattle.rules.specs.declared.Fault.the-variants.{BadContents, BadSequence, BadRow, BadParent}
 use Rattle.rules.specs.Choice.{pick, orElse, firstThat}
 use Rattle.rules.specs.Image.{Head, Entry, Row, headOf, entriesOf, rowsOf, deal, sumRows, largest, firstTrue, badHead, badEntries, badContents, badSeqs, badSequence, badRows, badLinks, inEach, at, faults, totalLength}
+use Rattle.rules.specs.Room.{documentsMost, revisionsMost}
 use Rattle.rules.proofs.MapLaws.{none≢some, some-inj}
 use Rattle.images.proofs.Tests.{true≢false, none5, all5, AllFalse}
 use Rattle.images.proofs.Lists.{Each}
@@ -134,8 +135,8 @@ pub record Meets (n : ℕ) (h : Head) (es : List Entry) (ws : List Row) : Type 0
   pub long : 16 ≤ n
   pub edition : h .edition ≡ 1
   pub zero : h .zero ≡ 0
-  pub documents : h .documents ≤ 32
-  pub revisions : h .revisions ≤ 512
+  pub documents : h .documents ≤ documentsMost
+  pub revisions : h .revisions ≤ revisionsMost
   pub total : h .total ≡ totalLength (h .documents) (h .revisions)
   pub given : h .total ≡ n
   pub entries : AllFalse (badEntries (16 + 44 * h .documents) none es)
@@ -153,7 +154,7 @@ module _ (s : List ℕ) where
       let es : List Entry = entriesOf s in
       let f = none-holds (faults s) e in
       let head =
-      none5 (not (eqb (h .zero) 0)) (ltb 32 (h .documents)) (ltb 512 (h .revisions))
+      none5 (not (eqb (h .zero) 0)) (ltb documentsMost (h .documents)) (ltb revisionsMost (h .revisions))
       (not (eqb (h .total) (totalLength (h .documents) (h .revisions)))) (not (eqb (h .total) (length s))) (f .1 .1 .0) in
       let contents =
       else-none (firstTrue 0 (badEntries (16 + 44 * h .documents) none es)) (eqb (sumRows es) (h .revisions)) (h .documents)
@@ -165,8 +166,8 @@ module _ (s : List ℕ) where
         long = ltb-false (length s) 16 (f .0);
         edition = eqb-true (h .edition) 1 (not-false (eqb (h .edition) 1) (f .1 .0));
         zero = eqb-true (h .zero) 0 (not-false (eqb (h .zero) 0) (head .0));
-        documents = ltb-false 32 (h .documents) (head .1);
-        revisions = ltb-false 512 (h .revisions) (head .2);
+        documents = ltb-false documentsMost (h .documents) (head .1);
+        revisions = ltb-false revisionsMost (h .revisions) (head .2);
         total = eqb-true (h .total) (totalLength (h .documents) (h .revisions)) (not-false (eqb (h .total) (totalLength (h .documents) (h .revisions))) (head .3));
         given = eqb-true (h .total) (length s) (not-false (eqb (h .total) (length s)) (head .4));
         entries = true-none 0 (badEntries (16 + 44 * h .documents) none es) (contents .0);
@@ -187,11 +188,11 @@ module _ (s : List ℕ) where
         (
           ap not (eq-eqb (h .edition) 1 (m .edition)),
           (
-            all5 (not (eqb (h .zero) 0)) (ltb 32 (h .documents)) (ltb 512 (h .revisions))
+            all5 (not (eqb (h .zero) 0)) (ltb documentsMost (h .documents)) (ltb revisionsMost (h .revisions))
                 (not (eqb (h .total) (totalLength (h .documents) (h .revisions)))) (not (eqb (h .total) (length s))) (
                   ap not (eq-eqb (h .zero) 0 (m .zero)),
-                  le-ltb 32 (h .documents) (m .documents),
-                  le-ltb 512 (h .revisions) (m .revisions),
+                  le-ltb documentsMost (h .documents) (m .documents),
+                  le-ltb revisionsMost (h .revisions) (m .revisions),
                   ap not (eq-eqb (h .total) (totalLength (h .documents) (h .revisions)) (m .total)),
                   ap not (eq-eqb (h .total) (length s) (m .given)),
                 ),

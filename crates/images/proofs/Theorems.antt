@@ -13,6 +13,7 @@ use Rattle.rules.specs.Bytes.{Bytes}
 use Rattle.rules.specs.Choice.{firstThat}
 use Rattle.rules.specs.Image.{image, faults, replicaIn, loadAs, load, totalLength}
 use Rattle.rules.specs.Replica.{Replica, revisionsHeld, IsReplica}
+use Rattle.rules.specs.Room.{documentsMost, revisionsMost}
 use Rattle.images.proofs.Rules.{NoneHolds, none-holds, holds-none, IsFirst, first-is, is-first}
 use Rattle.images.proofs.Replicas.{length-image, bytes-image, image-faultless, image-read, held-replica, held-image}
 
@@ -27,11 +28,28 @@ rules-all s = (none-holds (faults s), holds-none (faults s))
 pub first-fault : (s : List ℕ) (f : Fault × ℕ) → firstThat (faults s) ≡ some f ↔ IsFirst (faults s) f
 first-fault s f = (first-is (faults s) f, is-first (faults s) f)
 
--- "An image loads exactly if it meets every rule." "A failed load leaves the former replica."
+-- "An image loads exactly if it meets every rule."
 pub loads : (former : Replica) (s : List ℕ) → firstThat (faults s) ≡ none → load former s ≡ (Accepted, replicaIn s)
 unfolding load
 loads former s e = ap (loadAs former s) e
 
+-- what is accepted has no fault
+accepted : (former : Replica) (s : List ℕ) (r : Replica) → load former s ≡ (Accepted, r) → (firstThat (faults s) ≡ none) × (replicaIn s ≡ r)
+unfolding load
+accepted former s r e = go (firstThat (faults s)) refl
+  where
+    go : (o : Option (Fault × ℕ)) → firstThat (faults s) ≡ o → (firstThat (faults s) ≡ none) × (replicaIn s ≡ r)
+    go none p = (p, ap (λ (a : Loaded × Replica). a .1) (sym (ap (loadAs former s) p) ∙ e))
+    go (some f) p = absurd (never (ap (λ (a : Loaded × Replica). a .0) (sym (ap (loadAs former s) p) ∙ e)))
+      where
+        never : Refused (f .0) (f .1) ≡ Accepted → ⊥
+        never q = let z : _≡_ {A = ℕ} 0 1 = cc in omega arith
+
+pub loads-exactly : (former : Replica) (s : List ℕ) → (load former s ≡ (Accepted, replicaIn s)) ↔ NoneHolds (faults s)
+loads-exactly former s =
+    (λ e. none-holds (faults s) (accepted former s (replicaIn s) e .0), λ h. loads former s (holds-none (faults s) h))
+
+-- "A failed load leaves the former replica."
 pub refuses : (former : Replica) (s : List ℕ) (f : Fault × ℕ) → firstThat (faults s) ≡ some f → load former s ≡ (Refused (f .0) (f .1), former)
 unfolding load
 refuses former s f e = ap (loadAs former s) e
@@ -45,18 +63,6 @@ image-loads r i = (image-faultless r i, image-read r i)
 -- whatever loads is a replica, and saved it is the same bytes again
 pub loaded-is-replica : (s : List ℕ) → Bytes s → firstThat (faults s) ≡ none → IsReplica (replicaIn s) × (image (replicaIn s) ≡ s)
 loaded-is-replica s p e = (held-replica s p e, held-image s p e)
-
--- what is accepted is what has no fault
-accepted : (former : Replica) (s : List ℕ) (r : Replica) → load former s ≡ (Accepted, r) → (firstThat (faults s) ≡ none) × (replicaIn s ≡ r)
-unfolding load
-accepted former s r e = go (firstThat (faults s)) refl
-  where
-    go : (o : Option (Fault × ℕ)) → firstThat (faults s) ≡ o → (firstThat (faults s) ≡ none) × (replicaIn s ≡ r)
-    go none p = (p, ap (λ (a : Loaded × Replica). a .1) (sym (ap (loadAs former s) p) ∙ e))
-    go (some f) p = absurd (never (ap (λ (a : Loaded × Replica). a .0) (sym (ap (loadAs former s) p) ∙ e)))
-      where
-        never : Refused (f .0) (f .1) ≡ Accepted → ⊥
-        never q = let z : _≡_ {A = ℕ} 0 1 = cc in omega arith
 
 -- exactly one image loads as a replica: its own
 pub one-image : (r : Replica) → IsReplica r → (former : Replica)
@@ -84,9 +90,12 @@ pub image-length : (r : Replica) → IsReplica r → length (image r) ≡ totalL
 image-length = length-image
 
 -- "The largest image has 26,000 bytes."
-pub image-most : (r : Replica) → IsReplica r → length (image r) ≤ 26000
+pub image-most : (r : Replica) → IsReplica r → length (image r) ≤ totalLength documentsMost revisionsMost
 image-most r i =
     let n = length-image r i in
     let d = i .documents-most in
     let v = i .revisions-most in
     omega arith
+
+pub largest-image : totalLength documentsMost revisionsMost ≡ 26000
+largest-image = refl

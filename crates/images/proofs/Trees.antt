@@ -1,6 +1,6 @@
 -- A document's rows: they meet the rules on rows exactly if what they hold is a tree. Assumes nothing.
 use mathlib.Core.Path.{_≡_, refl, sym, ap, _∙_, subst}
-use mathlib.Core.Bool.{Bool, true, false, not}
+use mathlib.Core.Bool.{Bool, true, false, not, _||_}
 use mathlib.Core.List.{List, [], _∷_, map}
 use mathlib.Core.Option.{Option, none, some}
 use Prim.Native.Nat.{ℕ, _≤_}
@@ -16,7 +16,7 @@ use Rattle.rules.specs.Choice.{pick, maybe, any}
 use Rattle.rules.specs.Image.{Row, nodeIn, badRow, rowNotAbove, badRows, parentOfRow, isParentOf, badLink, badLinks, kindOf}
 use Rattle.rules.specs.Map.{find, Below, Ascending}
 use Rattle.rules.specs.Order.{orderRev, isLess, isEqual, sameRev}
-use Rattle.rules.specs.Replica.{Node, Tree, Known, HasContent, HasChild, Leaf, IsTree}
+use Rattle.rules.specs.Replica.{Node, Tree, Known, HasParent, HasContent, HasChild, IsTree}
 use Rattle.rules.proofs.MapLaws.{none≢some, some-inj}
 use Rattle.rules.proofs.OrderLaws.{revOrder}
 use Rattle.images.proofs.Tests.{true≢false, or-none, or-left, or-right, AllFalse}
@@ -92,21 +92,35 @@ row-parent : (x : Revision × Node) → IsRow x → parentOfRow (rowFor x) ≡ x
 unfolding nodeIn
 row-parent x r = ap (λ (y : Revision × Node). y .1 .parent) (row-of-node x r)
 
--- tests on a tree's rows, and what they say
+-- ---- the tests of 26 on a tree's rows
+
+knownTest : Tree → Revision → Bool
+knownTest t p = any (λ (x : Row). sameRev p (x .rev)) (map rowFor t)
+
+childTest : Tree → Revision → Bool
+childTest t v = any (isParentOf v) (map rowFor t)
+
+parentTest : Tree → Option Revision → Bool
+parentTest t p = maybe false (λ u. not (knownTest t u)) p
+
+-- a content where there is a child, or none where there is none
+kindTest : Bool → Option Content → Bool
+kindTest b c = pick b (not (eqb (kindOf c) 0)) (eqb (kindOf c) 0)
+
+link-tests : (t : Tree) (x : Revision × Node) → IsRow x
+    → badLink (map rowFor t) (rowFor x) ≡ (parentTest t (x .1 .parent) || kindTest (childTest t (x .0)) (x .1 .content))
+unfolding badLink rowFor knownTest childTest parentTest kindTest
+link-tests t x r = ap (λ (p : Option Revision). parentTest t p || kindTest (childTest t (x .0)) (x .1 .content)) (row-parent x r)
+
+-- what the tests say
 module _ (t : Tree) (s : Ascending orderRev t) (rows : Each IsRow t) where
-  knownTest : Revision → Bool
-  knownTest p = any (λ (x : Row). sameRev p (x .rev)) (map rowFor t)
-
-  childTest : Revision → Bool
-  childTest v = any (isParentOf v) (map rowFor t)
-
-  known-any : (p : Revision) → Known t p → knownTest p ≡ true
+  known-any : (p : Revision) → Known t p → knownTest t p ≡ true
   unfolding knownTest rowFor
   known-any p k =
       any-map rowFor (λ (x : Row). sameRev p (x .rev)) t
       ∙ find-any revOrder (λ x. sameRev p (x .0)) t p (k .0) (k .1) (same-self p)
 
-  any-known : (p : Revision) → knownTest p ≡ true → Known t p
+  any-known : (p : Revision) → knownTest t p ≡ true → Known t p
   unfolding knownTest rowFor
   any-known p e =
       let f = any-find revOrder (λ x. sameRev p (x .0)) t s (sym (any-map rowFor (λ (x : Row). sameRev p (x .rev)) t) ∙ e) in
@@ -116,14 +130,14 @@ module _ (t : Tree) (s : Ascending orderRev t) (rows : Each IsRow t) where
   unfolding isParentOf
   parent-test v u n e = ap (maybe false (sameRev v)) (row-parent (u, n) (each-find revOrder IsRow t rows u n e))
 
-  child-any : (v : Revision) → HasChild t v → childTest v ≡ true
+  child-any : (v : Revision) → HasChild t v → childTest t v ≡ true
   unfolding childTest
   child-any v c =
       any-map rowFor (isParentOf v) t
       ∙ find-any revOrder (λ x. isParentOf v (rowFor x)) t (c .0) (c .1 .0) (c .1 .1)
       (parent-test v (c .0) (c .1 .0) (c .1 .1) ∙ (ap (maybe false (sameRev v)) (c .1 .2) ∙ same-self v))
 
-  any-child : (v : Revision) → childTest v ≡ true → HasChild t v
+  any-child : (v : Revision) → childTest t v ≡ true → HasChild t v
   unfolding childTest
   any-child v e =
       let f = any-find revOrder (λ x. isParentOf v (rowFor x)) t s (sym (any-map rowFor (isParentOf v) t) ∙ e) in
@@ -134,15 +148,9 @@ module _ (t : Tree) (s : Ascending orderRev t) (rows : Each IsRow t) where
       go none m = absurd (true≢false (sym m))
       go (some u) m = ap some (sym (same-is v u m))
 
--- ---- kinds
-
 kind-some : (c : Content) → eqb (kindOf (some c)) 0 ≡ false
 kind-some (Live n) = refl
 kind-some Deleted = refl
-
-content-of : (o : Option Content) → eqb (kindOf o) 0 ≡ false → (c : Content) × (o ≡ some c)
-content-of none e = absurd (true≢false e)
-content-of (some c) e = (c, refl)
 
 -- ---- a tree and its rows
 
@@ -157,29 +165,24 @@ tree-rows t i = find-each revOrder IsRow t (i .ascending) λ v n e. record {
 
 -- "known parent not in the document, or kind not fitting the children": of a tree's rows none
 link-forth : (t : Tree) → IsTree t → (v : Revision) (n : Node) → find orderRev v t ≡ some n → badLink (map rowFor t) (rowFor (v, n)) ≡ false
-unfolding badLink rowFor knownTest childTest
+unfolding parentTest kindTest
 link-forth t i v n e =
-    or-none (maybe false (λ p. not (knownTest t s rows p)) (parentOfRow (rowFor (v, n))))
-    (pick (childTest t s rows v) (not (eqb (kindOf (n .content)) 0)) (eqb (kindOf (n .content)) 0))
-    (ap (maybe false (λ p. not (knownTest t s rows p))) (row-parent (v, n) (each-find revOrder IsRow t rows v n e)) ∙ parents (n .parent) refl)
-    (kinds (childTest t s rows v) refl (n .content) refl)
+    link-tests t (v, n) (each-find revOrder IsRow t rows v n e)
+    ∙ or-none (parentTest t (n .parent)) (kindTest (childTest t v) (n .content)) (parents (n .parent) refl)
+    (kinds (childTest t v) refl (n .content) refl)
   where
-    s : Ascending orderRev t
-    s = i .ascending
-
     rows : Each IsRow t
     rows = tree-rows t i
 
-    parents : (p : Option Revision) → n .parent ≡ p → maybe false (λ u. not (knownTest t s rows u)) p ≡ false
+    parents : (p : Option Revision) → n .parent ≡ p → parentTest t p ≡ false
     parents none q = refl
-    parents (some u) q = ap not (known-any t s rows u (i .parents v u (n, e, q)))
+    parents (some u) q = ap not (known-any t (i .ascending) rows u (i .parents v u (n, e, q)))
 
-    kinds : (b : Bool) → childTest t s rows v ≡ b → (c : Option Content) → n .content ≡ c → pick b (not (eqb (kindOf c) 0)) (eqb (kindOf c) 0) ≡ false
+    kinds : (b : Bool) → childTest t v ≡ b → (c : Option Content) → n .content ≡ c → kindTest b c ≡ false
     kinds true p none q = refl
-    kinds true p (some c) q = absurd (i .leaves v .0 (c, (n, e, q)) .1 (any-child t s rows v p))
+    kinds true p (some c) q = absurd (i .leaves v .0 (c, (n, e, q)) .1 (any-child t (i .ascending) rows v p))
     kinds false p none q =
-        let leaf : Leaf t v = ((n, e), λ h. true≢false (sym (child-any t s rows v h) ∙ p)) in
-        let f = i .leaves v .1 leaf in
+        let f = i .leaves v .1 ((n, e), λ h. true≢false (sym (child-any t (i .ascending) rows v h) ∙ p)) in
         let same : n ≡ f .1 .0 = some-inj (sym e ∙ f .1 .1) in
         absurd (none≢some (sym q ∙ (ap (λ (m : Node). m .content) same ∙ f .1 .2)))
     kinds false p (some c) q = kind-some c
@@ -187,68 +190,70 @@ link-forth t i v n e =
 -- the rows of a tree meet the rules 25 and 26
 pub tree-forth : (t : Tree) → IsTree t → AllFalse (badRows none (map rowFor t)) × AllFalse (badLinks (map rowFor t))
 unfolding badLinks
-tree-forth t i = (
-  rows-forth none t (tree-rows t i) (i .ascending) tt,
-  each-onto (λ b. b ≡ false) (badLink (map rowFor t)) (map rowFor t)
-      (each-onto (λ w. badLink (map rowFor t) w ≡ false) rowFor t
-      (find-each revOrder (λ x. badLink (map rowFor t) (rowFor x) ≡ false) t (i .ascending) (link-forth t i))),
-)
+tree-forth t i =
+    let links : Each (λ x. badLink (map rowFor t) (rowFor x) ≡ false) t = find-each revOrder (λ x. badLink (map rowFor t) (rowFor x) ≡ false) t (i .ascending) (link-forth t i) in (
+      rows-forth none t (tree-rows t i) (i .ascending) tt,
+      each-onto (λ b. b ≡ false) (badLink (map rowFor t)) (map rowFor t) (each-onto (λ w. badLink (map rowFor t) w ≡ false) rowFor t links),
+    )
 
 -- rows that meet 26 are those of a tree
-tree-from : (t : Tree) → Ascending orderRev t → 1 ≤ length t → Each IsRow t → AllFalse (badLinks (map rowFor t)) → IsTree t
-unfolding badLinks badLink rowFor knownTest childTest
-tree-from t s least rows h = record {
-  ascending = s;
-  some-revision = least;
-  revisions = λ v k. row v (k .0) (k .1) .rev;
-  lower = λ v p k. row v (k .0) (k .1) .lower p (k .2);
-  parents = λ v p k. any-known t s rows p (parent v (k .0) (k .1) p (k .2));
-  leaves = λ v. (λ c. ((c .1 .0, c .1 .1), with-content v (c .0) (c .1 .0) (c .1 .1) (c .1 .2)), λ l. without-child v (l .0 .0) (l .0 .1) (l .1));
-  contents = λ v c k. row v (k .0) (k .1) .content c (k .2);
-}
-  where
-    row : (v : Revision) (n : Node) → find orderRev v t ≡ some n → IsRow (v, n)
-    row v n e = each-find revOrder IsRow t rows v n e
+module _ (t : Tree) (s : Ascending orderRev t) (rows : Each IsRow t) (clear : AllFalse (badLinks (map rowFor t))) where
+  row-at : (v : Revision) (n : Node) → find orderRev v t ≡ some n → IsRow (v, n)
+  row-at v n e = each-find revOrder IsRow t rows v n e
 
-    links : Each (λ x. badLink (map rowFor t) (rowFor x) ≡ false) t
-    links = each-from (λ w. badLink (map rowFor t) w ≡ false) rowFor t (each-from (λ b. b ≡ false) (badLink (map rowFor t)) (map rowFor t) h)
+  link-at : (v : Revision) (n : Node) → find orderRev v t ≡ some n → (parentTest t (n .parent) || kindTest (childTest t v) (n .content)) ≡ false
+  unfolding badLinks
+  link-at v n e =
+      let links : Each (λ x. badLink (map rowFor t) (rowFor x) ≡ false) t =
+      each-from (λ w. badLink (map rowFor t) w ≡ false) rowFor t (each-from (λ b. b ≡ false) (badLink (map rowFor t)) (map rowFor t) clear) in
+      sym (link-tests t (v, n) (row-at v n e)) ∙ each-find revOrder (λ x. badLink (map rowFor t) (rowFor x) ≡ false) t links v n e
 
-    parents-known : (v : Revision) (n : Node) → find orderRev v t ≡ some n → maybe false (λ p. not (knownTest t s rows p)) (parentOfRow (rowFor (v, n))) ≡ false
-    parents-known v n e = or-left (maybe false (λ p. not (knownTest t s rows p)) (parentOfRow (rowFor (v, n)))) (pick (childTest t s rows v) (not (eqb (kindOf (n .content)) 0)) (eqb (kindOf (n .content)) 0)) (each-find revOrder (λ x. badLink (map rowFor t) (rowFor x) ≡ false) t links v n e)
+  parent-known : (v p : Revision) → HasParent t v p → Known t p
+  unfolding parentTest
+  parent-known v p k =
+      let none-bad = or-left (parentTest t (k .0 .parent)) (kindTest (childTest t v) (k .0 .content)) (link-at v (k .0) (k .1)) in
+      any-known t s rows p (not-false (knownTest t p) (ap (parentTest t) (sym (k .2)) ∙ none-bad))
 
-    kind-fits : (v : Revision) (n : Node) → find orderRev v t ≡ some n → pick (childTest t s rows v) (not (eqb (kindOf (n .content)) 0)) (eqb (kindOf (n .content)) 0) ≡ false
-    kind-fits v n e = or-right (maybe false (λ p. not (knownTest t s rows p)) (parentOfRow (rowFor (v, n)))) (pick (childTest t s rows v) (not (eqb (kindOf (n .content)) 0)) (eqb (kindOf (n .content)) 0)) (each-find revOrder (λ x. badLink (map rowFor t) (rowFor x) ≡ false) t links v n e)
+  kind-at : (v : Revision) (n : Node) (b : Bool) → find orderRev v t ≡ some n → childTest t v ≡ b → kindTest b (n .content) ≡ false
+  kind-at v n b e p =
+      ap (λ (x : Bool). kindTest x (n .content)) (sym p)
+      ∙ or-right (parentTest t (n .parent)) (kindTest (childTest t v) (n .content)) (link-at v n e)
 
-    parent : (v : Revision) (n : Node) → find orderRev v t ≡ some n → (p : Revision) → n .parent ≡ some p → knownTest t s rows p ≡ true
-    parent v n e p q =
-        not-false (knownTest t s rows p)
-        (ap (maybe false (λ u. not (knownTest t s rows u))) (sym (row-parent (v, n) (row v n e) ∙ q)) ∙ parents-known v n e)
+  with-content : (v : Revision) (c : Content) (n : Node) → find orderRev v t ≡ some n → n .content ≡ some c → HasChild t v → ⊥
+  unfolding kindTest
+  with-content v c n e q k =
+      let bad = ap not (kind-some c) in
+      true≢false (sym bad ∙ (ap (kindTest true) (sym q) ∙ kind-at v n true e (child-any t s rows v k)))
 
-    with-content : (v : Revision) (c : Content) (n : Node) → find orderRev v t ≡ some n → n .content ≡ some c → HasChild t v → ⊥
-    with-content v c n e q k =
-        let a : not (eqb (kindOf (n .content)) 0) ≡ false =
-        ap (λ (b : Bool). pick b (not (eqb (kindOf (n .content)) 0)) (eqb (kindOf (n .content)) 0)) (sym (child-any t s rows v k)) ∙ kind-fits v n e in
-        true≢false (sym (not-false (eqb (kindOf (n .content)) 0) a) ∙ (ap (λ (o : Option Content). eqb (kindOf o) 0) q ∙ kind-some c))
+  without-child : (v : Revision) (n : Node) → find orderRev v t ≡ some n → (HasChild t v → ⊥) → (c : Content) × HasContent t v c
+  unfolding kindTest
+  without-child v n e k = go (childTest t v) refl (n .content) refl
+    where
+      go : (b : Bool) → childTest t v ≡ b → (o : Option Content) → n .content ≡ o → (c : Content) × HasContent t v c
+      go true p o q = absurd (k (any-child t s rows v p))
+      go false p none q = absurd (true≢false (ap (kindTest false) (sym q) ∙ kind-at v n false e p))
+      go false p (some c) q = (c, (n, e, q))
 
-    without-child : (v : Revision) (n : Node) → find orderRev v t ≡ some n → (HasChild t v → ⊥) → (c : Content) × HasContent t v c
-    without-child v n e k = go (childTest t s rows v) refl
-      where
-        go : (b : Bool) → childTest t s rows v ≡ b → (c : Content) × HasContent t v c
-        go true p = absurd (k (any-child t s rows v p))
-        go false p =
-            let a : eqb (kindOf (n .content)) 0 ≡ false =
-            ap (λ (b : Bool). pick b (not (eqb (kindOf (n .content)) 0)) (eqb (kindOf (n .content)) 0)) (sym p) ∙ kind-fits v n e in
-            let f = content-of (n .content) a in
-            (f .0, (n, e, f .1))
+  tree-from : 1 ≤ length t → IsTree t
+  tree-from least = record {
+    ascending = s;
+    some-revision = least;
+    revisions = λ v k. row-at v (k .0) (k .1) .rev;
+    lower = λ v p k. row-at v (k .0) (k .1) .lower p (k .2);
+    parents = parent-known;
+    leaves = λ v. (λ c. ((c .1 .0, c .1 .1), with-content v (c .0) (c .1 .0) (c .1 .1) (c .1 .2)), λ l. without-child v (l .0 .0) (l .0 .1) (l .1));
+    contents = λ v c k. row-at v (k .0) (k .1) .content c (k .2);
+  }
 
 -- rows that meet the rules 25 and 26 hold a tree, and are its rows
 pub tree-back : (ws : List Row) → Each RowFits ws → 1 ≤ length ws → AllFalse (badRows none ws) → AllFalse (badLinks ws)
     → IsTree (map nodeIn ws) × (map rowFor (map nodeIn ws) ≡ ws)
 tree-back ws fits least a b =
     let r = rows-back none ws a in
-    let same : map rowFor (map nodeIn ws) ≡ ws = map-map nodeIn rowFor ws ∙ map-id (λ w. rowFor (nodeIn w)) ws (sames ws fits (r .each)) in (
-      tree-from (map nodeIn ws) (r .ascending) (subst (λ (n : ℕ). 1 ≤ n) (sym (length-map ws nodeIn)) least)
-          (each-onto IsRow nodeIn ws (nodes ws fits (r .each))) (subst (λ (l : List Row). AllFalse (badLinks l)) (sym same) b),
+    let same : map rowFor (map nodeIn ws) ≡ ws = map-map nodeIn rowFor ws ∙ map-id (λ w. rowFor (nodeIn w)) ws (sames ws fits (r .each)) in
+    let some-row : 1 ≤ length (map nodeIn ws) = subst (λ (n : ℕ). 1 ≤ n) (sym (length-map ws nodeIn)) least in (
+      tree-from (map nodeIn ws) (r .ascending) (each-onto IsRow nodeIn ws (nodes ws fits (r .each)))
+          (subst (λ (l : List Row). AllFalse (badLinks l)) (sym same) b) some-row,
       same,
     )
   where

@@ -5,7 +5,7 @@ use Prim.Native.Nat.{ℕ, zero, suc, _+_, _-_, _*_, _/_, _%_, _^_, _≤_, _<_}
 use native.Mathlib.Nat.{add-zero, zero-add, suc-add, mul-le-mul-right, pow-suc}
 use native.Mathlib.Omega.{arith}
 use lib.ListN.{length, getD, take, drop, replicate, length-append, length-take, length-drop, take-append-drop}
-use lib.Seq.{take-at, drop-at, take-add, drop-drop, length-take-le, take-all, take-take, getD-append-add, drop-cons, take-nil}
+use lib.Seq.{drop-length, take-at, drop-at, take-add, drop-drop, length-take-le, take-all, take-take, getD-append-add, drop-cons, take-nil}
 use Rattle.rules.specs.Bytes.{be, valueFrom, value, part, pieces, join, Bytes}
 
 -- ---- bytes
@@ -156,6 +156,19 @@ pub byte-next : (k m : ℕ) (s : List ℕ) → k + 1 ≡ m → k < length s → 
 byte-next k m s e h =
     let n : suc k ≡ m = omega arith in
     drop-cons s k 0 h ∙ ap (λ (i : ℕ). getD s k 0 ∷ drop i s) n
+
+-- the same where the part is read as a number and written again
+pub number-next : (k n m : ℕ) (s : List ℕ) → Bytes s → k + n ≡ m → m ≤ length s → be n (value (part k n s)) ++ drop m s ≡ drop k s
+number-next k n m s p e h =
+    ap (λ (l : List ℕ). l ++ drop m s)
+    (be-value-of n (part k n s) (length-part k n s (omega arith)) (bytes-part k n s p))
+    ∙ sym (part-next k n m s e)
+
+pub number-last : (k n : ℕ) (s : List ℕ) → Bytes s → k + n ≡ length s → be n (value (part k n s)) ≡ drop k s
+number-last k n s p e =
+    let v : List ℕ = be n (value (part k n s)) in
+    sym (append-nil v)
+    ∙ (ap (λ (l : List ℕ). v ++ l) (sym (drop-length s)) ∙ number-next k n (length s) s p e (omega arith))
 
 pub part-part : (i m k n : ℕ) (s : List ℕ) → i + m ≤ n → part i m (part k n s) ≡ part (k + i) m s
 unfolding part
