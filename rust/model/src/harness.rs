@@ -85,16 +85,6 @@ pub fn buffer(bytes: usize) -> Vec<u8> {
     (0..bytes).map(pattern).collect()
 }
 
-/// Runs a call on a new buffer.
-fn lent(room: usize, call: impl FnOnce(&mut [u8]) -> Result<Answer, Refusal>) -> Outcome {
-    let mut out = buffer(room);
-    let answer = call(&mut out).unwrap_or_else(Answer::Refused);
-    Outcome {
-        answer,
-        buffer: Some(out),
-    }
-}
-
 /// The image of a replica, which always fits the largest one.
 fn image_of<R: Replica>(replica: &R) -> Result<Vec<u8>, Refusal> {
     let mut out = vec![0; IMAGE_MOST];
@@ -118,130 +108,121 @@ fn pull<R: Replica>(replicas: &mut [R; REPLICAS], at: usize, from: usize, after:
     }
 }
 
-/// Runs one step.
-pub fn apply<R: Replica>(replicas: &mut [R; REPLICAS], step: &Step) -> Outcome {
-    let result = match step {
-        Step::Fresh { at } => {
-            replicas[*at] = R::fresh();
-            Ok(Answer::Done)
-        }
-        Step::Load { at, image } => replicas[*at].load(image).map(|()| Answer::Done),
-        Step::Write {
-            at,
-            id,
-            number,
-            path,
-            content,
-        } => replicas[*at]
-            .write(id, *number, path, *content)
-            .map(Answer::Changed),
-        Step::Edit {
-            at,
-            id,
-            hash,
-            content,
-            parent,
-        } => replicas[*at]
-            .edit(id, *hash, *content, *parent)
-            .map(Answer::Value),
-        Step::Pull { at, from, after } => Ok(Answer::Pulled(pull(replicas, *at, *from, *after))),
-        Step::Reload { at, from } => image_of(&replicas[*from])
-            .and_then(|image| replicas[*at].load(&image))
-            .map(|()| Answer::Done),
-        Step::UpdateSequence { at } => Ok(Answer::Value(replicas[*at].update_sequence())),
-        Step::Counts { at } => {
-            let (documents, revisions) = replicas[*at].counts();
-            Ok(Answer::Counts(documents, revisions))
-        }
-        Step::Save { at, room } => {
-            return lent(*room, |out| replicas[*at].save(out).map(Answer::Value))
-        }
-        Step::Winner { at, id, room } => {
-            return lent(*room, |out| {
-                replicas[*at].winner(id, out).map(Answer::Value)
-            })
-        }
-        Step::Leaves { at, id, room } => {
-            return lent(*room, |out| {
-                replicas[*at].leaves(id, out).map(Answer::Value)
-            })
-        }
-        Step::Path {
-            at,
-            id,
-            number,
-            hash,
-            room,
-        } => {
-            return lent(*room, |out| {
-                let count = replicas[*at].path(id, *number, *hash, out)?;
-                Ok(Answer::Value(count))
-            })
-        }
-        Step::Missing {
-            at,
-            id,
-            asked,
-            room,
-        } => {
-            return lent(*room, |out| {
-                let bytes = replicas[*at].missing(id, asked, out)?;
-                Ok(Answer::Value(bytes))
-            })
-        }
-        Step::Changes { at, after, room } => {
-            return lent(*room, |out| {
-                let change = replicas[*at].changes(*after, out)?;
+/// Three replicas of one kind.
+trait Replicas {
+    /// Runs a step with the buffer that it is lent, which is empty if it has none.
+    fn call(&mut self, step: &Step, out: &mut [u8]) -> Result<Answer, Refusal>;
+}
+
+impl<R: Replica> Replicas for [R; REPLICAS] {
+    fn call(&mut self, step: &Step, out: &mut [u8]) -> Result<Answer, Refusal> {
+        match step {
+            Step::Fresh { at } => {
+                self[*at] = R::fresh();
+                Ok(Answer::Done)
+            }
+            Step::Load { at, image } => self[*at].load(image).map(|()| Answer::Done),
+            Step::Save { at, .. } => self[*at].save(out).map(Answer::Value),
+            Step::Write {
+                at,
+                id,
+                number,
+                path,
+                content,
+            } => self[*at]
+                .write(id, *number, path, *content)
+                .map(Answer::Changed),
+            Step::Edit {
+                at,
+                id,
+                hash,
+                content,
+                parent,
+            } => self[*at]
+                .edit(id, *hash, *content, *parent)
+                .map(Answer::Value),
+            Step::Winner { at, id, .. } => self[*at].winner(id, out).map(Answer::Value),
+            Step::Leaves { at, id, .. } => self[*at].leaves(id, out).map(Answer::Value),
+            Step::Path {
+                at,
+                id,
+                number,
+                hash,
+                ..
+            } => self[*at].path(id, *number, *hash, out).map(Answer::Value),
+            Step::Missing { at, id, asked, .. } => {
+                self[*at].missing(id, asked, out).map(Answer::Value)
+            }
+            Step::Changes { at, after, .. } => {
+                let change = self[*at].changes(*after, out)?;
                 Ok(change.map_or(Answer::NoMore, Answer::Change))
-            })
+            }
+            Step::Pull { at, from, after } => Ok(Answer::Pulled(pull(self, *at, *from, *after))),
+            Step::Reload { at, from } => {
+                let image = image_of(&self[*from])?;
+                self[*at].load(&image).map(|()| Answer::Done)
+            }
+            Step::UpdateSequence { at } => Ok(Answer::Value(self[*at].update_sequence())),
+            Step::Counts { at } => {
+                let (documents, revisions) = self[*at].counts();
+                Ok(Answer::Counts(documents, revisions))
+            }
+            Step::Report { image, .. } => R::report(image, out).map(Answer::Value),
         }
-        Step::Report { image, room } => {
-            return lent(*room, |out| R::report(image, out).map(Answer::Value))
-        }
-    };
-    Outcome {
-        answer: result.unwrap_or_else(Answer::Refused),
-        buffer: None,
     }
 }
 
-/// All that can be seen of a replica at once.
-fn look<R: Replica>(replica: &R) -> Vec<Outcome> {
-    // More room than any image needs, so that a byte written after one is seen too.
-    let saved = lent(IMAGE_MOST + 16, |out| replica.save(out).map(Answer::Value));
-    let (documents, revisions) = replica.counts();
-    let mut seen = vec![saved];
-    for answer in [
-        Answer::Value(replica.update_sequence()),
-        Answer::Counts(documents, revisions),
-    ] {
-        seen.push(Outcome {
-            answer,
-            buffer: None,
-        });
+/// Runs one step on a buffer of its room.
+pub fn apply<R: Replica>(replicas: &mut [R; REPLICAS], step: &Step) -> Outcome {
+    outcome(replicas, step)
+}
+
+fn outcome(replicas: &mut dyn Replicas, step: &Step) -> Outcome {
+    let mut out = step.room().map(buffer);
+    let result = replicas.call(step, out.as_deref_mut().unwrap_or_default());
+    Outcome {
+        answer: result.unwrap_or_else(Answer::Refused),
+        buffer: out,
     }
-    seen
+}
+
+/// The steps that show all of a replica at once. The room is more than any image needs, so that a
+/// byte written after one is seen too.
+fn looks(at: usize) -> [Step; 3] {
+    let room = IMAGE_MOST + 16;
+    [
+        Step::Save { at, room },
+        Step::UpdateSequence { at },
+        Step::Counts { at },
+    ]
 }
 
 /// Where two kinds of replica came apart.
 #[derive(Clone, PartialEq, Eq, Debug)]
 pub struct Difference {
-    /// The index of the step, from 0.
+    /// The index, from 0, of the step that brought it out.
     pub step: usize,
-    /// What differs: the step's outcome, or a replica after it.
-    pub subject: String,
-    pub left: String,
-    pub right: String,
-    /// The steps up to that one, which show the difference when replayed.
+    pub left: Outcome,
+    pub right: Outcome,
+    /// The steps up to that one, and, where its own outcomes agree, the read that shows the
+    /// difference it left.
     pub scenario: Scenario,
 }
 
 impl fmt::Display for Difference {
     fn fmt(&self, f: &mut fmt::Formatter) -> fmt::Result {
-        writeln!(f, "step {}: {} differs", self.step, self.subject)?;
-        writeln!(f, "  left:  {}", self.left)?;
-        writeln!(f, "  right: {}", self.right)?;
-        writeln!(f, "# the scenario, for a replay:")?;
+        writeln!(f, "# a difference at step {} (from 0)", self.step)?;
+        writeln!(f, "# left:  {}", self.left)?;
+        writeln!(f, "# right: {}", self.right)?;
+        if let (Some(left), Some(right)) = (&self.left.buffer, &self.right.buffer) {
+            if let Some(byte) = (0..left.len()).find(|&byte| left[byte] != right[byte]) {
+                writeln!(f, "# the buffers differ from byte {byte} on")?;
+            }
+        }
+        writeln!(
+            f,
+            "# the last of these steps shows it when they are replayed:"
+        )?;
         write!(f, "{}", self.scenario)
     }
 }
@@ -253,27 +234,29 @@ impl std::error::Error for Difference {}
 pub fn run_scenario<A: Replica, B: Replica>(scenario: &Scenario) -> Result<(), Difference> {
     let mut left: [A; REPLICAS] = std::array::from_fn(|_| A::fresh());
     let mut right: [B; REPLICAS] = std::array::from_fn(|_| B::fresh());
+    compare(&mut left, &mut right, scenario)
+}
+
+fn compare(
+    left: &mut dyn Replicas,
+    right: &mut dyn Replicas,
+    scenario: &Scenario,
+) -> Result<(), Difference> {
     for (index, step) in scenario.steps.iter().enumerate() {
-        let compare = |subject: &str, left: &Outcome, right: &Outcome| {
-            if left == right {
-                return Ok(());
-            }
-            Err(Difference {
-                step: index,
-                subject: subject.to_string(),
-                left: left.to_string(),
-                right: right.to_string(),
-                scenario: Scenario {
-                    steps: scenario.steps[..=index].to_vec(),
-                },
-            })
-        };
-        let outcome = apply(&mut left, step);
-        compare("the outcome", &outcome, &apply(&mut right, step))?;
-        for at in 0..REPLICAS {
-            let (left, right) = (look(&left[at]), look(&right[at]));
-            for (left, right) in left.iter().zip(&right) {
-                compare(&format!("replica {at}"), left, right)?;
+        let looks = (0..REPLICAS).flat_map(looks);
+        for step in std::iter::once(step.clone()).chain(looks) {
+            let (left, right) = (outcome(left, &step), outcome(right, &step));
+            if left != right {
+                let mut steps = scenario.steps[..=index].to_vec();
+                if steps[index] != step {
+                    steps.push(step);
+                }
+                return Err(Difference {
+                    step: index,
+                    left,
+                    right,
+                    scenario: Scenario { steps },
+                });
             }
         }
     }

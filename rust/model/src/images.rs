@@ -2,8 +2,8 @@
 
 use crate::harness::IMAGE_MOST;
 use crate::layout::{image_bytes, Entry, Image, Row};
-use crate::model::Model;
-use crate::offers::{content, hash, some_document, Alphabet};
+use crate::model::{Hash, Model};
+use crate::offers::{content, hash, some_document, Alphabet, Offer};
 use crate::random::Random;
 use crate::scenario::{Scenario, Step};
 use crate::{Content, Replica};
@@ -144,7 +144,7 @@ fn other(random: &mut Random, value: u64, bits: u32) -> u64 {
         3 => value.wrapping_add(1),
         4 => value.wrapping_sub(1),
         5 => most,
-        _ => random.next(),
+        _ => random.any(),
     };
     new & most
 }
@@ -329,7 +329,7 @@ fn flip_bits(random: &mut Random, sound: &[u8]) -> Vec<u8> {
 fn change_length(random: &mut Random, sound: &[u8]) -> Vec<u8> {
     let mut bytes = sound.to_vec();
     match random.below(4) {
-        0 => bytes.push(random.next() as u8),
+        0 => bytes.push(random.any() as u8),
         1 => {
             let more = random.below(100);
             bytes.extend(random.bytes(more));
@@ -373,14 +373,24 @@ pub fn lot() -> Model {
     replica
 }
 
-/// The replica that the writes leave, each accepted.
-fn written(writes: &[(&[u8], u32, &[[u8; 16]], Content)]) -> Image {
+/// The image of the replica that the offers leave, each accepted.
+fn written(offers: &[Offer]) -> Image {
     let mut replica = Model::fresh();
-    for (id, number, path, content) in writes {
-        let written = replica.write(id, *number, &path.concat(), *content);
-        written.expect("the writes are accepted");
+    for offer in offers {
+        let path = offer.hashes.concat();
+        let written = replica.write(&offer.id, offer.number, &path, offer.content);
+        written.expect("the offers are accepted");
     }
     Image::read(&save(&replica)).expect("a sound image")
+}
+
+fn offer(id: &[u8], number: u32, hashes: &[Hash], content: Content) -> Offer {
+    Offer {
+        id: id.to_vec(),
+        number,
+        hashes: hashes.to_vec(),
+        content,
+    }
 }
 
 /// Images that look right and aren't, or look wrong and are right, by name.
@@ -388,39 +398,41 @@ pub fn traps() -> Vec<(&'static str, Vec<u8>)> {
     let live = Content::Live(7);
     let one = [hash(0x20)];
 
-    let alike = written(&[(b"a", 1, &one, live), (b"a\0", 1, &one, live)]);
+    let alike = written(&[offer(b"a", 1, &one, live), offer(b"a\0", 1, &one, live)]);
     let mut alike_reversed = alike.clone();
     alike_reversed.entries.swap(0, 1);
     refit(&mut alike_reversed);
     let mut same_id = alike.clone();
     same_id.entries[1].id_length = 1;
 
-    let prefixes = written(&[(b"a", 1, &one, live), (b"ab", 1, &one, live)]);
+    let prefixes = written(&[offer(b"a", 1, &one, live), offer(b"ab", 1, &one, live)]);
     let mut prefixes_reversed = prefixes.clone();
     prefixes_reversed.entries.swap(0, 1);
     refit(&mut prefixes_reversed);
 
-    let zero_parent = written(&[(b"lot", 2, &[hash(0x91), [0; 16]], live)]);
+    let zero_parent = written(&[offer(b"lot", 2, &[hash(0x91), [0; 16]], live)]);
     let mut zero_parent_unknown = zero_parent.clone();
     zero_parent_unknown.rows[1].parent_known = 0;
-    let mut zero_parent_absent = written(&[(b"lot", 2, &one, live)]);
+    let mut zero_parent_absent = written(&[offer(b"lot", 2, &one, live)]);
     zero_parent_absent.rows[0].parent_known = 1;
 
-    let label_zero = written(&[(b"lot", 1, &one, Content::Live(0))]);
-    let mut label_on_deletion = written(&[(b"lot", 1, &one, Content::Deleted)]);
+    let label_zero = written(&[offer(b"lot", 1, &one, Content::Live(0))]);
+    let mut label_on_deletion = written(&[offer(b"lot", 1, &one, Content::Deleted)]);
     label_on_deletion.rows[0].label = 1;
 
-    let last_number = written(&[(b"lot", u32::MAX, &[hash(0x91), hash(0x20)], live)]);
-    let mut last_sequence = written(&[(b"lot", 1, &one, live)]);
+    let last_number = written(&[offer(b"lot", u32::MAX, &[hash(0x91), hash(0x20)], live)]);
+    let mut last_sequence = written(&[offer(b"lot", 1, &one, live)]);
     last_sequence.head.sequence = u32::MAX;
     last_sequence.entries[0].sequence = u32::MAX;
 
-    let mut second_row_bad = written(&[(b"a", 1, &one, live), (b"b", 1, &one, live)]);
+    let mut second_row_bad = written(&[offer(b"a", 1, &one, live), offer(b"b", 1, &one, live)]);
     second_row_bad.rows[1].kind = 3;
 
     let full = save(&filled(&mut Random::new(0), 32, 512));
     let mut a_byte_more = full.clone();
     a_byte_more.push(0);
+    let mut far_too_long = full.clone();
+    far_too_long.resize(2 * IMAGE_MOST, 0);
 
     vec![
         ("empty", Vec::new()),
@@ -442,7 +454,7 @@ pub fn traps() -> Vec<(&'static str, Vec<u8>)> {
         ("a bad row in the second document", second_row_bad.bytes()),
         ("full", full),
         ("full and a byte more", a_byte_more),
-        ("far too long", vec![0; 2 * IMAGE_MOST]),
+        ("far too long", far_too_long),
     ]
 }
 

@@ -3,12 +3,11 @@
 //! The sections are those of the document, whose words stand in quotes above what renders them. The
 //! rules that decide, each refusal's condition among them, are the functions of [`Rules`].
 
-use crate::layout::{self, Entry, Head, Image, Row};
+use crate::layout::{image_bytes, Entry, Head, Image, Row};
 use crate::rules::{House, Rules};
 use crate::{Change, Content, Counts, Refusal, Replica};
 use std::collections::{BTreeMap, BTreeSet};
-use std::fmt::{self, Write};
-use std::marker::PhantomData;
+use std::fmt;
 
 // What a replica holds
 
@@ -70,9 +69,8 @@ impl Document {
     }
 
     pub fn leaf(&self, revision: Revision) -> Option<Leaf> {
-        self.leaves()
-            .into_iter()
-            .find(|leaf| leaf.revision == revision)
+        let leaves = self.leaves();
+        leaves.into_iter().find(|leaf| leaf.revision == revision)
     }
 
     /// "Path of a known revision: the revision itself, followed by the path of its parent, as far as
@@ -87,11 +85,10 @@ impl Document {
 }
 
 impl Held {
+    /// The revisions "in all documents together".
     pub fn revisions(&self) -> usize {
-        self.documents
-            .values()
-            .map(|document| document.revisions.len())
-            .sum()
+        let documents = self.documents.values();
+        documents.map(|document| document.revisions.len()).sum()
     }
 }
 
@@ -111,20 +108,74 @@ impl Given<'_> {
     /// "The k-th hash after the newest has the number less k." Of a path that is too long for its
     /// number, only the revisions that have a number.
     pub fn revisions(&self) -> Vec<Revision> {
-        self.path
-            .chunks_exact(16)
-            .zip(0..)
-            .map_while(|(hash, k)| {
-                Some(Revision {
-                    number: self.number.checked_sub(k)?,
-                    hash: hash.try_into().expect("a chunk of 16"),
-                })
+        let hashes = self.path.chunks_exact(16).zip(0..);
+        let revisions = hashes.map_while(|(hash, k)| {
+            Some(Revision {
+                number: self.number.checked_sub(k)?,
+                hash: hash.try_into().expect("a chunk of 16"),
             })
-            .collect()
+        });
+        revisions.collect()
     }
 
     pub fn newest(&self) -> Option<Revision> {
         self.revisions().first().copied()
+    }
+}
+
+impl Held {
+    /// "A path write checks 1 to 8 in that order."
+    fn write(&mut self, rules: &dyn Rules, given: &Given) -> Result<bool, Refusal> {
+        let given = &Given {
+            content: rules.content(given.content),
+            ..*given
+        };
+        let refused = first_refusal(rules.write_order(), |number| match number {
+            1 => rules.bad_id(given.id),
+            2 => rules.bad_path(given.path),
+            3 => rules.number_too_small(given),
+            4 => rules.other_parent(self, given),
+            5 => rules.other_content(self, given),
+            6 => rules.no_document_room(self, given.id),
+            7 => rules.no_revision_room(self, given),
+            8 => rules.no_sequence(self, given),
+            _ => unreachable!("a path write checks 1 to 8"),
+        });
+        if let Err(refusal) = refused {
+            rules.refused_write(refusal, self, given);
+            return Err(refusal);
+        }
+        Ok(self.accept(rules, given))
+    }
+
+    /// "An accepted write adds the revisions and parents that the path gives and the replica lacks.
+    /// If the newest revision is new, it gets the content. [..] If it is known and has a child, the
+    /// given content is dropped. Where nothing was added the answer is "unchanged" and the sequence
+    /// stays. Otherwise it is "changed", the sequence rises by one, and the document takes the new
+    /// value."
+    fn accept(&mut self, rules: &dyn Rules, given: &Given) -> bool {
+        let added = rules.adds(self, given);
+        let document = self.documents.entry(rules.key(given.id)).or_default();
+        if added {
+            for revision in rules.revisions(given) {
+                let new = document.revisions.insert(revision);
+                if new && given.newest() == Some(revision) {
+                    document.contents.insert(revision, given.content);
+                }
+            }
+            for (child, parent) in rules.parents(given) {
+                if document.parent(child).is_none() {
+                    document.parents.insert(child, parent);
+                    rules.gain_child(document, parent);
+                }
+            }
+        }
+        let sequence = rules.sequence_after(self.sequence, added);
+        if sequence != self.sequence {
+            self.sequence = sequence;
+            document.sequence = sequence;
+        }
+        added
     }
 }
 
@@ -146,37 +197,45 @@ pub enum Base {
     Parent(Revision),
 }
 
-// The replica
-
-/// A replica under the given rules.
-pub struct ModelOf<R> {
-    held: Held,
-    rules: PhantomData<R>,
+impl Held {
+    /// "An edit checks 1, 9, 11, 10, 6, 7, 8." "An accepted edit leaves what the path write of the
+    /// new revision and its parent, if any, would leave, and answers the new number."
+    fn edit(&mut self, rules: &dyn Rules, edit: &Edit) -> Result<u32, Refusal> {
+        let edit = &Edit {
+            content: rules.content(edit.content),
+            ..*edit
+        };
+        let base = rules.base(self, edit);
+        let path = match base {
+            Some(Base::Parent(parent)) => [edit.hash, parent.hash].concat(),
+            _ => edit.hash.to_vec(),
+        };
+        let number = base.and_then(|base| rules.new_number(base));
+        let given = number.map(|number| Given {
+            id: edit.id,
+            number,
+            path: &path,
+            content: edit.content,
+        });
+        first_refusal(rules.edit_order(), |number| match number {
+            1 => rules.bad_id(edit.id),
+            9 => rules.parent_rule_broken(base),
+            11 => base.is_some_and(|base| rules.parent_is_last(base)),
+            10 => given.is_some_and(|given| rules.newest_known(self, &given)),
+            6 => rules.no_document_room(self, edit.id),
+            7 => given.is_some_and(|given| rules.no_revision_room(self, &given)),
+            8 => given.is_some_and(|given| rules.no_sequence(self, &given)),
+            _ => unreachable!("an edit checks 1 and 6 to 11"),
+        })?;
+        let given = given.expect("9 and 11 were tried");
+        self.accept(rules, &given);
+        Ok(given.number)
+    }
 }
 
-/// The replica under the rules of the document.
-pub type Model = ModelOf<House>;
+// Refusal numbers and their order
 
-impl<R> ModelOf<R> {
-    pub fn held(&self) -> &Held {
-        &self.held
-    }
-
-    fn holding(held: Held) -> Self {
-        ModelOf {
-            held,
-            rules: PhantomData,
-        }
-    }
-}
-
-impl<R> Clone for ModelOf<R> {
-    fn clone(&self) -> Self {
-        Self::holding(self.held.clone())
-    }
-}
-
-/// "Refusal numbers and their order": the first of the ordered refusals that holds.
+/// The first of the ordered refusals that holds.
 fn first_refusal(order: &[u32], holds: impl Fn(u32) -> bool) -> Result<(), Refusal> {
     match order.iter().copied().find(|&number| holds(number)) {
         Some(number) => Err(Refusal { number, place: 0 }),
@@ -184,138 +243,28 @@ fn first_refusal(order: &[u32], holds: impl Fn(u32) -> bool) -> Result<(), Refus
     }
 }
 
-impl<R: Rules> ModelOf<R> {
-    /// "An accepted write adds the revisions and parents that the path gives and the replica lacks.
-    /// If the newest revision is new, it gets the content. [..] If it is known and has a child, the
-    /// given content is dropped. Where nothing was added the answer is "unchanged" and the sequence
-    /// stays. Otherwise it is "changed", the sequence rises by one, and the document takes the new
-    /// value."
-    fn accept(&mut self, given: &Given) -> bool {
-        let added = R::adds(&self.held, given);
-        let document = self.held.documents.entry(R::key(given.id)).or_default();
-        if added {
-            for revision in R::revisions(given) {
-                let new = document.revisions.insert(revision);
-                if new && given.newest() == Some(revision) {
-                    document.contents.insert(revision, given.content);
-                }
-            }
-            for (child, parent) in R::parents(given) {
-                if document.parent(child).is_none() {
-                    document.parents.insert(child, parent);
-                    R::gain_child(document, parent);
-                }
-            }
-        }
-        let sequence = R::sequence_after(self.held.sequence, added);
-        if sequence != self.held.sequence {
-            self.held.sequence = sequence;
-            document.sequence = sequence;
-        }
-        added
+/// "A refusal [..] alters neither replica nor buffer. An accepted call writes the answer at the front
+/// of the buffer and leaves the bytes after it."
+fn lend(
+    rules: &dyn Rules,
+    refused: Result<(), Refusal>,
+    answer: &[u8],
+    out: &mut [u8],
+) -> Result<(), Refusal> {
+    match refused {
+        Ok(()) => rules.fill(out, answer),
+        Err(refusal) => rules.spill(refusal, out, answer),
     }
-
-    /// "Leaves: highest number first, then highest hash".
-    fn leaves_in_order(document: &Document) -> Vec<Leaf> {
-        let mut leaves = document.leaves();
-        leaves.sort_by(|a, b| R::order(b.revision, a.revision));
-        leaves
-    }
-
-    /// "Reads of a document check 1, 12, 13 (path only), 14". The answer is there if the document
-    /// is, and for a path the revision too.
-    fn read(&self, id: &[u8], answer: Option<Vec<u8>>, out: &mut [u8]) -> Result<Vec<u8>, Refusal> {
-        let refused = first_refusal(R::READ_ORDER, |number| match number {
-            1 => R::bad_id(id),
-            12 => R::document(&self.held, id).is_none(),
-            13 => answer.is_none(),
-            14 => R::short(out, answer.as_deref()),
-            _ => unreachable!("a read checks 1, 12, 13 and 14"),
-        });
-        let answer = answer.unwrap_or_default();
-        Self::lend(refused, answer, out)
-    }
-
-    /// "A refusal [..] alters neither replica nor buffer. An accepted call writes the answer at the
-    /// front of the buffer and leaves the bytes after it."
-    fn lend(
-        refused: Result<(), Refusal>,
-        answer: Vec<u8>,
-        out: &mut [u8],
-    ) -> Result<Vec<u8>, Refusal> {
-        match refused {
-            Ok(()) => R::fill(out, &answer),
-            Err(refusal) => R::spill(refusal, out, &answer),
-        }
-        refused.map(|()| answer)
-    }
-
-    /// The document's line of the check program.
-    fn line(id: &[u8], document: &Document) -> Line {
-        let leaves = document.leaves();
-        let winner = R::winner(&leaves);
-        Line {
-            id: id.to_vec(),
-            sequence: document.sequence,
-            winner: winner.revision,
-            leaves: leaves.len(),
-            conflicts: R::conflicts(&leaves, winner),
-        }
-    }
-
-    /// "A refused image prints `refused N at P`. An accepted one prints a head line (update sequence,
-    /// documents, revisions) and one line per document in image order [..] each line ends with a
-    /// newline."
-    fn text(image: &[u8]) -> String {
-        let mut replica = Self::fresh();
-        if let Err(Refusal { number, place }) = replica.load(image) {
-            return format!("refused {number} at {place}\n");
-        }
-        let Held {
-            documents,
-            sequence,
-        } = &replica.held;
-        let mut text = format!(
-            "seq {sequence} documents {} revisions {}\n",
-            documents.len(),
-            replica.held.revisions()
-        );
-        for (id, document) in documents {
-            writeln!(text, "{}", Self::line(id, document)).expect("a string takes all text");
-        }
-        text
-    }
+    refused
 }
 
-/// What the check program prints of a document: "id in hex, own sequence, winner as number and hash,
-/// leaf count, conflict count. Numbers are decimal, hex is lower case".
-struct Line {
-    id: Vec<u8>,
-    sequence: u32,
-    winner: Revision,
-    leaves: usize,
-    conflicts: usize,
+/// Lends an answer that only a short buffer can refuse: "changes and saving 14".
+fn lend_whole(rules: &dyn Rules, answer: &[u8], out: &mut [u8]) -> Result<(), Refusal> {
+    let refused = first_refusal(&[14], |_| rules.short(out, Some(answer)));
+    lend(rules, refused, answer, out)
 }
 
-impl fmt::Display for Line {
-    fn fmt(&self, f: &mut fmt::Formatter) -> fmt::Result {
-        write!(
-            f,
-            "{} seq {} winner {}-{} leaves {} conflicts {}",
-            hex(&self.id),
-            self.sequence,
-            self.winner.number,
-            hex(&self.winner.hash),
-            self.leaves,
-            self.conflicts
-        )
-    }
-}
-
-/// Bytes in lower-case hex.
-pub fn hex(bytes: &[u8]) -> String {
-    bytes.iter().map(|byte| format!("{byte:02x}")).collect()
-}
+// Reading
 
 /// "kind (1: 0 has a child, 1 live, 2 deleted)" and "label (8, zero unless live)".
 fn kind_and_label(content: Option<Content>) -> (u8, u64) {
@@ -338,9 +287,192 @@ impl Leaf {
     }
 }
 
+/// An asked revision: "a number of four bytes, big-endian, and a hash".
+fn asked_revision(asked: &[u8]) -> Revision {
+    let (number, hash) = asked.split_at(4);
+    Revision {
+        number: u32::from_be_bytes(number.try_into().expect("4 bytes")),
+        hash: hash.try_into().expect("16 bytes"),
+    }
+}
+
+/// "Leaves: highest number first, then highest hash".
+fn leaves_in_order(rules: &dyn Rules, document: &Document) -> Vec<Leaf> {
+    let mut leaves = document.leaves();
+    leaves.sort_by(|a, b| rules.order(b.revision, a.revision));
+    leaves
+}
+
+impl Held {
+    /// "Reads of a document check 1, 12, 13 (path only), 14". The revision is the one that a path is
+    /// asked of. Gives the answer back once it is lent.
+    fn read(
+        &self,
+        rules: &dyn Rules,
+        id: &[u8],
+        revision: Option<Revision>,
+        answer: impl Fn(&Document) -> Vec<u8>,
+        out: &mut [u8],
+    ) -> Result<Vec<u8>, Refusal> {
+        let document = rules.document(self, id);
+        let unknown = document
+            .zip(revision)
+            .is_some_and(|(document, revision)| rules.no_revision(document, revision));
+        let answer = document.filter(|_| !unknown).map(answer);
+        let refused = first_refusal(rules.read_order(), |number| match number {
+            1 => rules.bad_id(id),
+            12 => rules.no_document(self, id),
+            13 => unknown,
+            14 => rules.short(out, answer.as_deref()),
+            _ => unreachable!("a read checks 1, 12, 13 and 14"),
+        });
+        let answer = answer.unwrap_or_default();
+        lend(rules, refused, &answer, out)?;
+        Ok(answer)
+    }
+
+    /// "The winner is answered in the same form."
+    fn winner(&self, rules: &dyn Rules, id: &[u8], out: &mut [u8]) -> Result<u32, Refusal> {
+        let answer = |document: &Document| rules.winner(&document.leaves()).bytes();
+        let answer = self.read(rules, id, None, answer, out)?;
+        Ok(answer.len() as u32)
+    }
+
+    /// "their count is answered."
+    fn leaves(&self, rules: &dyn Rules, id: &[u8], out: &mut [u8]) -> Result<u32, Refusal> {
+        let answer = |document: &Document| {
+            let leaves = leaves_in_order(rules, document);
+            leaves.iter().flat_map(Leaf::bytes).collect()
+        };
+        let answer = self.read(rules, id, None, answer, out)?;
+        Ok(answer.len() as u32 / 29)
+    }
+
+    /// "Its hashes are written, 16 bytes each, and their count answered."
+    fn path(
+        &self,
+        rules: &dyn Rules,
+        id: &[u8],
+        revision: Revision,
+        out: &mut [u8],
+    ) -> Result<u32, Refusal> {
+        let answer = |document: &Document| document.path(revision).concat();
+        let answer = self.read(rules, id, Some(revision), answer, out)?;
+        Ok(answer.len() as u32 / 16)
+    }
+
+    /// "missing revisions 1, 15, 14". "The answer has one byte each, 0 known, 1 missing."
+    fn missing(
+        &self,
+        rules: &dyn Rules,
+        id: &[u8],
+        asked: &[u8],
+        out: &mut [u8],
+    ) -> Result<u32, Refusal> {
+        let document = rules.document(self, id);
+        let revisions = asked.chunks_exact(20).map(asked_revision);
+        let answer: Vec<u8> = revisions
+            .map(|revision| rules.is_missing(document, revision).into())
+            .collect();
+        let refused = first_refusal(rules.missing_order(), |number| match number {
+            1 => rules.bad_id(id),
+            15 => rules.bad_asked(asked),
+            14 => rules.short(out, Some(&answer)),
+            _ => unreachable!("missing revisions check 1, 15 and 14"),
+        });
+        lend(rules, refused, &answer, out)?;
+        Ok(answer.len() as u32)
+    }
+
+    /// "Changes after s: the document with the lowest own sequence above s: its id written out, and
+    /// answered its id length, that sequence, its leaf count and whether its winner is a deletion; or
+    /// "no more", nothing written."
+    fn changes(
+        &self,
+        rules: &dyn Rules,
+        after: u32,
+        out: &mut [u8],
+    ) -> Result<Option<Change>, Refusal> {
+        let documents = self.documents.iter();
+        let lowest = documents
+            .filter(|(_, document)| rules.is_after(document.sequence, after))
+            .min_by_key(|(_, document)| document.sequence);
+        let Some((id, document)) = lowest else {
+            return Ok(None);
+        };
+        lend_whole(rules, id, out)?;
+        let leaves = document.leaves();
+        Ok(Some(Change {
+            id_len: id.len() as u32,
+            seq: document.sequence,
+            leaves: leaves.len() as u32,
+            deleted: rules.winner(&leaves).content == Content::Deleted,
+        }))
+    }
+}
+
+// Pull
+
+/// "Documents come in order of their sequence, leaves of each highest first".
+fn pulled_documents<'a>(
+    rules: &dyn Rules,
+    source: &'a Held,
+    after: u32,
+) -> Vec<(&'a [u8], &'a Document)> {
+    let mut documents: Vec<_> = source
+        .documents
+        .iter()
+        .filter(|(_, document)| rules.is_pulled(document.sequence, after))
+        .map(|(id, document)| (id.as_slice(), document))
+        .collect();
+    documents.sort_by(|a, b| rules.pull_order(*a, *b));
+    documents
+}
+
+impl Held {
+    /// "Pull reads a source replica after a given sequence and writes a target. [..] A refused offer
+    /// is counted and pull goes on with the next leaf. The answer has three counts: changed,
+    /// unchanged, refused."
+    fn pull(&mut self, rules: &dyn Rules, source: &Held, after: u32) -> Counts {
+        let mut counts = Counts::default();
+        for (id, document) in pulled_documents(rules, source, after) {
+            for leaf in leaves_in_order(rules, document) {
+                if rules.skips(self, id, document, leaf) {
+                    counts.unchanged += 1;
+                    continue;
+                }
+                let offer = Given {
+                    id,
+                    number: leaf.revision.number,
+                    path: &rules.offered_path(document, leaf).concat(),
+                    content: leaf.content,
+                };
+                match self.write(rules, &offer) {
+                    Ok(true) => counts.changed += 1,
+                    Ok(false) => counts.unchanged += 1,
+                    Err(_) => {
+                        counts.refused += 1;
+                        if rules.stops_at_refusal() {
+                            return counts;
+                        }
+                    }
+                }
+            }
+        }
+        counts
+    }
+}
+
 // The stored image
 
 impl Held {
+    /// "changes and saving 14".
+    fn save(&self, rules: &dyn Rules, out: &mut [u8]) -> Result<u32, Refusal> {
+        let answer = self.image().bytes();
+        lend_whole(rules, &answer, out)?;
+        Ok(answer.len() as u32)
+    }
+
     /// The one image of a replica: ids ascend, and the rows of a document by number, then hash.
     fn image(&self) -> Image {
         let documents = self.documents.len();
@@ -356,7 +488,7 @@ impl Held {
                 zero: 0,
                 rows: document.revisions.len() as u16,
                 sequence: document.sequence,
-                place: layout::image_bytes(documents, rows.len()) as u32,
+                place: image_bytes(documents, rows.len()) as u32,
             });
             for &revision in &document.revisions {
                 let (kind, label) = kind_and_label(document.contents.get(&revision).copied());
@@ -379,15 +511,29 @@ impl Held {
                 revisions: revisions as u16,
                 zero: 0,
                 sequence: self.sequence,
-                total: layout::image_bytes(documents, revisions) as u32,
+                total: image_bytes(documents, revisions) as u32,
             },
             entries,
             rows,
         }
     }
 
+    /// "An image loads exactly if it meets every rule. Refusals, in order, each over the whole image
+    /// [..] A failed load leaves the former replica."
+    fn load(&mut self, rules: &dyn Rules, bytes: &[u8]) -> Result<(), Refusal> {
+        for &number in rules.image_order() {
+            if let Some(place) = image_fault(rules, number, bytes) {
+                rules.failed_load(self);
+                return Err(Refusal { number, place });
+            }
+        }
+        let image = Image::read(bytes).expect("22 was tried");
+        *self = Held::of_image(rules, &image);
+        Ok(())
+    }
+
     /// What an image that meets every rule says.
-    fn of_image<R: Rules>(image: &Image) -> Held {
+    fn of_image(rules: &dyn Rules, image: &Image) -> Held {
         let mut held = Held {
             sequence: image.head.sequence,
             ..Held::default()
@@ -400,7 +546,7 @@ impl Held {
             for row in rows {
                 let revision = row.revision();
                 document.revisions.insert(revision);
-                if let Some(parent) = R::row_parent(row) {
+                if let Some(parent) = rules.row_parent(row) {
                     document.parents.insert(revision, parent);
                 }
                 match row.kind {
@@ -410,55 +556,146 @@ impl Held {
                 };
             }
             let id = entry.id().expect("23 was tried");
-            held.documents.insert(R::key(id), document);
+            held.documents.insert(rules.key(id), document);
         }
         held
     }
 }
 
-/// The place of a fault in the image, if it has the one of that number.
-fn image_fault<R: Rules>(number: u32, bytes: &[u8]) -> Option<u32> {
+/// The place of the fault of that number in the image, if it has it.
+fn image_fault(rules: &dyn Rules, number: u32, bytes: &[u8]) -> Option<u32> {
     let head = Head::read(bytes);
     let image = Image::read(bytes);
     match number {
-        20 => R::image_short(bytes).then_some(0),
-        21 => R::other_edition(&head?).then_some(0),
-        22 => R::bad_head(&head?, bytes).then_some(0),
-        23 => R::contents_fault(&image?),
-        24 => R::sequence_fault(&image?),
-        25 => R::row_fault(&image?),
-        26 => R::parent_fault(&image?),
+        20 => rules.image_short(bytes).then_some(0),
+        21 => rules.other_edition(&head?).then_some(0),
+        22 => rules.bad_head(&head?, bytes).then_some(0),
+        23 => rules.contents_fault(&image?),
+        24 => rules.sequence_fault(&image?),
+        25 => rules.row_fault(&image?),
+        26 => rules.parent_fault(&image?),
         _ => unreachable!("an image is refused by 20 to 26"),
     }
 }
 
-impl<R: Rules> Replica for ModelOf<R> {
+// The check program
+
+/// "a head line (update sequence, documents, revisions)".
+struct HeadLine {
+    sequence: u32,
+    documents: usize,
+    revisions: usize,
+}
+
+/// "one line per document in image order: id in hex, own sequence, winner as number and hash, leaf
+/// count, conflict count."
+struct DocumentLine {
+    id: Vec<u8>,
+    sequence: u32,
+    winner: Revision,
+    leaves: usize,
+    conflicts: usize,
+}
+
+/// "Numbers are decimal, hex is lower case, each line ends with a newline."
+impl fmt::Display for HeadLine {
+    fn fmt(&self, f: &mut fmt::Formatter) -> fmt::Result {
+        writeln!(
+            f,
+            "seq {} documents {} revisions {}",
+            self.sequence, self.documents, self.revisions
+        )
+    }
+}
+
+impl fmt::Display for DocumentLine {
+    fn fmt(&self, f: &mut fmt::Formatter) -> fmt::Result {
+        writeln!(
+            f,
+            "{} seq {} winner {}-{} leaves {} conflicts {}",
+            hex(&self.id),
+            self.sequence,
+            self.winner.number,
+            hex(&self.winner.hash),
+            self.leaves,
+            self.conflicts
+        )
+    }
+}
+
+/// Bytes in lower-case hex.
+pub fn hex(bytes: &[u8]) -> String {
+    bytes.iter().map(|byte| format!("{byte:02x}")).collect()
+}
+
+fn document_line(rules: &dyn Rules, id: &[u8], document: &Document) -> DocumentLine {
+    let leaves = document.leaves();
+    let winner = rules.winner(&leaves);
+    DocumentLine {
+        id: id.to_vec(),
+        sequence: document.sequence,
+        winner: winner.revision,
+        leaves: leaves.len(),
+        conflicts: rules.conflicts(&leaves, winner),
+    }
+}
+
+/// "A refused image prints `refused N at P`. An accepted one prints a head line [..] and one line per
+/// document in image order".
+fn text(rules: &dyn Rules, image: &[u8]) -> String {
+    let mut held = Held::default();
+    if let Err(Refusal { number, place }) = held.load(rules, image) {
+        return format!("refused {number} at {place}\n");
+    }
+    let head = HeadLine {
+        sequence: held.sequence,
+        documents: held.documents.len(),
+        revisions: held.revisions(),
+    };
+    let documents = held.documents.iter();
+    let lines = documents.map(|(id, document)| document_line(rules, id, document).to_string());
+    head.to_string() + &lines.collect::<String>()
+}
+
+/// "It reads an image from standard input and only reports. Input past 26,001 bytes is not read."
+fn report(rules: &dyn Rules, image: &[u8], out: &mut [u8]) -> Result<u32, Refusal> {
+    let read = &image[..image.len().min(26_001)];
+    let answer = text(rules, read).into_bytes();
+    lend_whole(rules, &answer, out)?;
+    Ok(answer.len() as u32)
+}
+
+// The calls
+
+/// A replica under the given rules.
+#[derive(Clone, Default)]
+pub struct ModelOf<R> {
+    held: Held,
+    rules: R,
+}
+
+/// The replica under the rules of the document.
+pub type Model = ModelOf<House>;
+
+impl<R> ModelOf<R> {
+    pub fn held(&self) -> &Held {
+        &self.held
+    }
+}
+
+impl<R: Rules + Clone + Default> Replica for ModelOf<R> {
     fn fresh() -> Self {
-        Self::holding(Held::default())
+        Self::default()
     }
 
-    /// "An image loads exactly if it meets every rule. Refusals, in order, each over the whole image
-    /// [..] A failed load leaves the former replica."
-    fn load(&mut self, bytes: &[u8]) -> Result<(), Refusal> {
-        for &number in R::IMAGE_ORDER {
-            if let Some(place) = image_fault::<R>(number, bytes) {
-                R::failed_load(&mut self.held);
-                return Err(Refusal { number, place });
-            }
-        }
-        let image = Image::read(bytes).expect("22 was tried");
-        self.held = Held::of_image::<R>(&image);
-        Ok(())
+    fn load(&mut self, image: &[u8]) -> Result<(), Refusal> {
+        self.held.load(&self.rules, image)
     }
 
-    /// "changes and saving 14".
     fn save(&self, out: &mut [u8]) -> Result<u32, Refusal> {
-        let answer = self.held.image().bytes();
-        let refused = first_refusal(&[14], |_| R::short(out, Some(&answer)));
-        Self::lend(refused, answer, out).map(|answer| answer.len() as u32)
+        self.held.save(&self.rules, out)
     }
 
-    /// "A path write checks 1 to 8 in that order."
     fn write(
         &mut self,
         id: &[u8],
@@ -466,33 +703,15 @@ impl<R: Rules> Replica for ModelOf<R> {
         path: &[u8],
         content: Content,
     ) -> Result<bool, Refusal> {
-        let content = R::content(content);
         let given = Given {
             id,
             number,
             path,
             content,
         };
-        let refused = first_refusal(R::WRITE_ORDER, |number| match number {
-            1 => R::bad_id(id),
-            2 => R::bad_path(path),
-            3 => R::number_too_small(&given),
-            4 => R::other_parent(&self.held, &given),
-            5 => R::other_content(&self.held, &given),
-            6 => R::no_document_room(&self.held, id),
-            7 => R::no_revision_room(&self.held, &given),
-            8 => R::no_sequence(&self.held, &given),
-            _ => unreachable!("a path write checks 1 to 8"),
-        });
-        if let Err(refusal) = refused {
-            R::refused_write(refusal, &mut self.held, &given);
-            return Err(refusal);
-        }
-        Ok(self.accept(&given))
+        self.held.write(&self.rules, &given)
     }
 
-    /// "An edit checks 1, 9, 11, 10, 6, 7, 8." "An accepted edit leaves what the path write of the
-    /// new revision and its parent, if any, would leave, and answers the new number."
     fn edit(
         &mut self,
         id: &[u8],
@@ -500,136 +719,38 @@ impl<R: Rules> Replica for ModelOf<R> {
         content: Content,
         parent: Option<(u32, Hash)>,
     ) -> Result<u32, Refusal> {
-        let content = R::content(content);
         let edit = Edit {
             id,
             hash,
             content,
             parent: parent.map(|(number, hash)| Revision { number, hash }),
         };
-        let base = R::base(&self.held, &edit);
-        let path = match base {
-            Some(Base::Parent(parent)) => [hash, parent.hash].concat(),
-            _ => hash.to_vec(),
-        };
-        let given = base.and_then(R::new_number).map(|number| Given {
-            id,
-            number,
-            path: &path,
-            content,
-        });
-        first_refusal(R::EDIT_ORDER, |number| match number {
-            1 => R::bad_id(id),
-            9 => base.is_none(),
-            11 => base.is_some_and(R::parent_is_last),
-            10 => given.is_some_and(|given| R::newest_known(&self.held, &given)),
-            6 => R::no_document_room(&self.held, id),
-            7 => given.is_some_and(|given| R::no_revision_room(&self.held, &given)),
-            8 => given.is_some_and(|given| R::no_sequence(&self.held, &given)),
-            _ => unreachable!("an edit checks 1 and 6 to 11"),
-        })?;
-        let given = given.expect("9 and 11 were tried");
-        self.accept(&given);
-        Ok(given.number)
+        self.held.edit(&self.rules, &edit)
     }
 
-    /// "The winner is answered in the same form."
     fn winner(&self, id: &[u8], out: &mut [u8]) -> Result<u32, Refusal> {
-        let document = R::document(&self.held, id);
-        let answer = document.map(|document| R::winner(&document.leaves()).bytes());
-        let answer = self.read(id, answer, out)?;
-        Ok(answer.len() as u32)
+        self.held.winner(&self.rules, id, out)
     }
 
-    /// "their count is answered."
     fn leaves(&self, id: &[u8], out: &mut [u8]) -> Result<u32, Refusal> {
-        let document = R::document(&self.held, id);
-        let answer = document.map(|document| {
-            let leaves = Self::leaves_in_order(document);
-            leaves.iter().flat_map(Leaf::bytes).collect()
-        });
-        let answer = self.read(id, answer, out)?;
-        Ok(answer.len() as u32 / 29)
+        self.held.leaves(&self.rules, id, out)
     }
 
-    /// "Its hashes are written, 16 bytes each, and their count answered."
     fn path(&self, id: &[u8], number: u32, hash: Hash, out: &mut [u8]) -> Result<u32, Refusal> {
         let revision = Revision { number, hash };
-        let document = R::document(&self.held, id);
-        let answer = document
-            .filter(|document| document.knows(revision))
-            .map(|document| document.path(revision).concat());
-        let answer = self.read(id, answer, out)?;
-        Ok(answer.len() as u32 / 16)
+        self.held.path(&self.rules, id, revision, out)
     }
 
-    /// "missing revisions 1, 15, 14". "The answer has one byte each, 0 known, 1 missing."
     fn missing(&self, id: &[u8], asked: &[u8], out: &mut [u8]) -> Result<u32, Refusal> {
-        let document = R::document(&self.held, id);
-        let answer: Vec<u8> = asked
-            .chunks_exact(20)
-            .map(|asked| {
-                let (number, hash) = asked.split_at(4);
-                let revision = Revision {
-                    number: u32::from_be_bytes(number.try_into().expect("4 bytes")),
-                    hash: hash.try_into().expect("16 bytes"),
-                };
-                R::is_missing(document, revision).into()
-            })
-            .collect();
-        let refused = first_refusal(R::MISSING_ORDER, |number| match number {
-            1 => R::bad_id(id),
-            15 => R::bad_asked(asked),
-            14 => R::short(out, Some(&answer)),
-            _ => unreachable!("missing revisions check 1, 15 and 14"),
-        });
-        Self::lend(refused, answer, out).map(|answer| answer.len() as u32)
+        self.held.missing(&self.rules, id, asked, out)
     }
 
-    /// "Changes after s: the document with the lowest own sequence above s: its id written out, and
-    /// answered its id length, that sequence, its leaf count and whether its winner is a deletion; or
-    /// "no more", nothing written."
     fn changes(&self, after: u32, out: &mut [u8]) -> Result<Option<Change>, Refusal> {
-        let documents = R::documents_after(&self.held, after);
-        let Some((id, document)) = documents.first() else {
-            return Ok(None);
-        };
-        let refused = first_refusal(&[14], |_| R::short(out, Some(id)));
-        Self::lend(refused, id.to_vec(), out)?;
-        let leaves = document.leaves();
-        Ok(Some(Change {
-            id_len: id.len() as u32,
-            seq: document.sequence,
-            leaves: leaves.len() as u32,
-            deleted: R::winner(&leaves).content == Content::Deleted,
-        }))
+        self.held.changes(&self.rules, after, out)
     }
 
-    /// "Pull reads a source replica after a given sequence and writes a target. [..] A refused offer
-    /// is counted and pull goes on with the next leaf. The answer has three counts: changed,
-    /// unchanged, refused."
     fn pull(&mut self, source: &Self, after: u32) -> Counts {
-        let mut counts = Counts::default();
-        for (id, document) in R::pulled_documents(&source.held, after) {
-            for leaf in Self::leaves_in_order(document) {
-                if R::skips(&self.held, id, document, leaf) {
-                    counts.unchanged += 1;
-                    continue;
-                }
-                let path = R::offered_path(document, leaf).concat();
-                match self.write(id, leaf.revision.number, &path, leaf.content) {
-                    Ok(true) => counts.changed += 1,
-                    Ok(false) => counts.unchanged += 1,
-                    Err(_) => {
-                        counts.refused += 1;
-                        if R::stops_at_refusal() {
-                            return counts;
-                        }
-                    }
-                }
-            }
-        }
-        counts
+        self.held.pull(&self.rules, &source.held, after)
     }
 
     fn update_sequence(&self) -> u32 {
@@ -641,11 +762,7 @@ impl<R: Rules> Replica for ModelOf<R> {
         (documents as u32, self.held.revisions() as u32)
     }
 
-    /// "It reads an image from standard input and only reports. Input past 26,001 bytes is not read."
     fn report(image: &[u8], out: &mut [u8]) -> Result<u32, Refusal> {
-        let read = &image[..image.len().min(26_001)];
-        let answer = Self::text(read).into_bytes();
-        let refused = first_refusal(&[14], |_| R::short(out, Some(&answer)));
-        Self::lend(refused, answer, out).map(|answer| answer.len() as u32)
+        report(&R::default(), image, out)
     }
 }

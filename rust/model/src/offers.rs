@@ -144,6 +144,14 @@ impl Alphabet {
                 let count = random.below(4).min(unknown as usize);
                 hashes.extend((0..count).map(|_| self.hash(random)));
             }
+            // A parent may be known as a revision that stands apart.
+            2 => {
+                let apart = revisions.iter().filter(|apart| apart.number == unknown);
+                let apart: Vec<_> = apart.collect();
+                if !apart.is_empty() {
+                    hashes.push(random.pick(&apart).hash);
+                }
+            }
             _ => {}
         }
         while random.percent(40) && number < u32::MAX {

@@ -4,12 +4,13 @@
 //! right rule is always the default.
 
 use crate::layout::{image_bytes, Entry, Head, Image, Row};
-use crate::model::{Base, Document, Edit, Given, Held, Leaf, Revision};
+use crate::model::{Base, Document, Edit, Given, Hash, Held, Leaf, Revision};
 use crate::{Content, Refusal};
 use std::cmp::Ordering;
 use std::collections::BTreeSet;
 
 /// The rules as they stand.
+#[derive(Clone, Default)]
 pub struct House;
 
 impl Rules for House {}
@@ -18,65 +19,75 @@ pub trait Rules {
     // What a replica holds
 
     /// "A document has an id of 1 to 32 bytes, each byte free."
-    const ID_BYTES: usize = 32;
+    fn most_id_bytes(&self) -> usize {
+        32
+    }
 
     /// "Room: 32 documents and 512 revisions in all documents together."
-    const DOCUMENTS: usize = 32;
-    const REVISIONS: usize = 512;
+    fn most_documents(&self) -> usize {
+        32
+    }
+
+    /// See [`Rules::most_documents`].
+    fn most_revisions(&self) -> usize {
+        512
+    }
 
     /// "not 1 to 512 hashes".
-    const PATH_HASHES: usize = 512;
+    fn most_hashes(&self) -> usize {
+        512
+    }
 
     /// Two ids are the same document exactly if they are the same bytes.
-    fn key(id: &[u8]) -> Vec<u8> {
+    fn key(&self, id: &[u8]) -> Vec<u8> {
         id.to_vec()
     }
 
-    fn document<'a>(held: &'a Held, id: &[u8]) -> Option<&'a Document> {
-        held.documents.get(&Self::key(id))
+    fn document<'a>(&self, held: &'a Held, id: &[u8]) -> Option<&'a Document> {
+        held.documents.get(&self.key(id))
     }
 
     /// "Label 0 is an ordinary label."
-    fn content(given: Content) -> Content {
+    fn content(&self, given: Content) -> Content {
         given
     }
 
     /// "A revision that gains a child loses its content".
-    fn gain_child(document: &mut Document, parent: Revision) {
+    fn gain_child(&self, document: &mut Document, parent: Revision) {
         document.contents.remove(&parent);
     }
 
     // Writing a path
 
     /// The revisions that the path gives, newest first. A hash of zeros is one like any other.
-    fn revisions(given: &Given) -> Vec<Revision> {
+    fn revisions(&self, given: &Given) -> Vec<Revision> {
         given.revisions()
     }
 
     /// "Each hash is the parent of the one before it." Pairs of child and parent.
-    fn parents(given: &Given) -> Vec<(Revision, Revision)> {
-        let revisions = Self::revisions(given);
+    fn parents(&self, given: &Given) -> Vec<(Revision, Revision)> {
+        let revisions = self.revisions(given);
         let parents = revisions.iter().skip(1);
         revisions.iter().copied().zip(parents.copied()).collect()
     }
 
     /// Whether there are "revisions and parents that the path gives and the replica lacks".
     /// "Learning only a parent is a change."
-    fn adds(held: &Held, given: &Given) -> bool {
-        Self::new_revisions(held, given) > 0 || Self::new_parents(held, given) > 0
+    fn adds(&self, held: &Held, given: &Given) -> bool {
+        self.new_revisions(held, given) > 0 || self.new_parents(held, given) > 0
     }
 
-    fn new_revisions(held: &Held, given: &Given) -> usize {
-        let document = Self::document(held, given.id);
+    fn new_revisions(&self, held: &Held, given: &Given) -> usize {
+        let document = self.document(held, given.id);
         let known = |revision| document.is_some_and(|document| document.knows(revision));
-        let revisions = Self::revisions(given);
+        let revisions = self.revisions(given);
         revisions.into_iter().filter(|&given| !known(given)).count()
     }
 
-    fn new_parents(held: &Held, given: &Given) -> usize {
-        let document = Self::document(held, given.id);
+    fn new_parents(&self, held: &Held, given: &Given) -> usize {
+        let document = self.document(held, given.id);
         let parent = |child| document.and_then(|document| document.parent(child));
-        let parents = Self::parents(given);
+        let parents = self.parents(given);
         parents
             .into_iter()
             .filter(|&(child, _)| parent(child).is_none())
@@ -85,7 +96,7 @@ pub trait Rules {
 
     /// "Where nothing was added the answer is "unchanged" and the sequence stays. Otherwise it is
     /// "changed", the sequence rises by one".
-    fn sequence_after(sequence: u32, added: bool) -> u32 {
+    fn sequence_after(&self, sequence: u32, added: bool) -> u32 {
         if added {
             sequence + 1
         } else {
@@ -98,8 +109,8 @@ pub trait Rules {
     /// "Naming a parent, that parent must be a leaf of the document, live or deleted. Naming none,
     /// the content must be live, and either the document is absent (the new revision has number 1)
     /// or its winner is a deletion, which becomes the parent." None if the rule isn't met.
-    fn base(held: &Held, edit: &Edit) -> Option<Base> {
-        let document = Self::document(held, edit.id);
+    fn base(&self, held: &Held, edit: &Edit) -> Option<Base> {
+        let document = self.document(held, edit.id);
         match edit.parent {
             Some(parent) => {
                 document?.leaf(parent)?;
@@ -109,7 +120,7 @@ pub trait Rules {
             None => match document {
                 None => Some(Base::NewDocument),
                 Some(document) => {
-                    let winner = Self::winner(&document.leaves());
+                    let winner = self.winner(&document.leaves());
                     (winner.content == Content::Deleted).then_some(Base::Parent(winner.revision))
                 }
             },
@@ -117,7 +128,7 @@ pub trait Rules {
     }
 
     /// "A parent's number is one lower." A new document begins at number 1.
-    fn new_number(base: Base) -> Option<u32> {
+    fn new_number(&self, base: Base) -> Option<u32> {
         match base {
             Base::NewDocument => Some(1),
             Base::Parent(parent) => parent.number.checked_add(1),
@@ -127,47 +138,55 @@ pub trait Rules {
     // Refusal numbers and their order
 
     /// "A path write checks 1 to 8 in that order."
-    const WRITE_ORDER: &'static [u32] = &[1, 2, 3, 4, 5, 6, 7, 8];
+    fn write_order(&self) -> &'static [u32] {
+        &[1, 2, 3, 4, 5, 6, 7, 8]
+    }
 
     /// "An edit checks 1, 9, 11, 10, 6, 7, 8."
-    const EDIT_ORDER: &'static [u32] = &[1, 9, 11, 10, 6, 7, 8];
+    fn edit_order(&self) -> &'static [u32] {
+        &[1, 9, 11, 10, 6, 7, 8]
+    }
 
     /// "Reads of a document check 1, 12, 13 (path only), 14".
-    const READ_ORDER: &'static [u32] = &[1, 12, 13, 14];
+    fn read_order(&self) -> &'static [u32] {
+        &[1, 12, 13, 14]
+    }
 
     /// "missing revisions 1, 15, 14".
-    const MISSING_ORDER: &'static [u32] = &[1, 15, 14];
+    fn missing_order(&self) -> &'static [u32] {
+        &[1, 15, 14]
+    }
 
     /// 1: "id empty or over 32 bytes".
-    fn bad_id(id: &[u8]) -> bool {
-        id.is_empty() || id.len() > Self::ID_BYTES
+    fn bad_id(&self, id: &[u8]) -> bool {
+        id.is_empty() || id.len() > self.most_id_bytes()
     }
 
     /// 2: "path bytes not a multiple of 16, or not 1 to 512 hashes".
-    fn bad_path(path: &[u8]) -> bool {
-        path.len() % 16 != 0 || !(1..=Self::PATH_HASHES).contains(&(path.len() / 16))
+    fn bad_path(&self, path: &[u8]) -> bool {
+        !path.len().is_multiple_of(16) || !(1..=self.most_hashes()).contains(&(path.len() / 16))
     }
 
     /// 3: "number smaller than the count of hashes".
-    fn number_too_small(given: &Given) -> bool {
+    fn number_too_small(&self, given: &Given) -> bool {
         (given.number as usize) < given.path.len() / 16
     }
 
     /// 4: "a revision of the path has a known parent other than the one the path gives it (the oldest
     /// is given none, so never counts)".
-    fn other_parent(held: &Held, given: &Given) -> bool {
-        let Some(document) = Self::document(held, given.id) else {
+    fn other_parent(&self, held: &Held, given: &Given) -> bool {
+        let Some(document) = self.document(held, given.id) else {
             return false;
         };
-        let parents = Self::parents(given);
+        let parents = self.parents(given);
         parents
             .into_iter()
             .any(|(child, parent)| crossed(document, child, parent))
     }
 
     /// 5: "the newest is a known leaf with another content".
-    fn other_content(held: &Held, given: &Given) -> bool {
-        let document = Self::document(held, given.id);
+    fn other_content(&self, held: &Held, given: &Given) -> bool {
+        let document = self.document(held, given.id);
         let known = document
             .zip(given.newest())
             .and_then(|(document, newest)| document.leaf(newest));
@@ -175,70 +194,84 @@ pub trait Rules {
     }
 
     /// 6: "document absent and 32 documents held".
-    fn no_document_room(held: &Held, id: &[u8]) -> bool {
-        Self::document(held, id).is_none() && held.documents.len() == Self::DOCUMENTS
+    fn no_document_room(&self, held: &Held, id: &[u8]) -> bool {
+        self.document(held, id).is_none() && held.documents.len() == self.most_documents()
     }
 
     /// 7: "revisions held plus new ones exceed 512".
-    fn no_revision_room(held: &Held, given: &Given) -> bool {
-        held.revisions() + Self::new_revisions(held, given) > Self::REVISIONS
+    fn no_revision_room(&self, held: &Held, given: &Given) -> bool {
+        held.revisions() + self.new_revisions(held, given) > self.most_revisions()
     }
 
     /// 8: "something would be added and the sequence is 4,294,967,295".
-    fn no_sequence(held: &Held, given: &Given) -> bool {
-        Self::adds(held, given) && held.sequence == 4_294_967_295
+    fn no_sequence(&self, held: &Held, given: &Given) -> bool {
+        self.adds(held, given) && held.sequence == 4_294_967_295
     }
 
-    // 9: "edit: the parent rule above isn't met" is `base` giving none.
+    /// 9: "edit: the parent rule above isn't met".
+    fn parent_rule_broken(&self, base: Option<Base>) -> bool {
+        base.is_none()
+    }
 
     /// 10: "edit: the new number and hash are known in the document".
-    fn newest_known(held: &Held, given: &Given) -> bool {
-        let document = Self::document(held, given.id);
+    fn newest_known(&self, held: &Held, given: &Given) -> bool {
+        let document = self.document(held, given.id);
         document
             .zip(given.newest())
             .is_some_and(|(document, newest)| document.knows(newest))
     }
 
     /// 11: "edit: the parent's number is 4,294,967,295".
-    fn parent_is_last(base: Base) -> bool {
+    fn parent_is_last(&self, base: Base) -> bool {
         matches!(base, Base::Parent(parent) if parent.number == 4_294_967_295)
+    }
+
+    /// 12: "read: no such document".
+    fn no_document(&self, held: &Held, id: &[u8]) -> bool {
+        self.document(held, id).is_none()
+    }
+
+    /// 13: "read: no such revision in the document".
+    fn no_revision(&self, document: &Document, revision: Revision) -> bool {
+        !document.knows(revision)
     }
 
     /// 14: "a lent output buffer is shorter than the answer". There may be no answer to measure,
     /// where an earlier refusal is due.
-    fn short(out: &[u8], answer: Option<&[u8]>) -> bool {
+    fn short(&self, out: &[u8], answer: Option<&[u8]>) -> bool {
         answer.is_some_and(|answer| out.len() < answer.len())
     }
 
     /// 15: "asked list not a multiple of 20 bytes".
-    fn bad_asked(asked: &[u8]) -> bool {
-        asked.len() % 20 != 0
+    fn bad_asked(&self, asked: &[u8]) -> bool {
+        !asked.len().is_multiple_of(20)
     }
 
     /// "An accepted call writes the answer at the front of the buffer and leaves the bytes after it."
-    fn fill(out: &mut [u8], answer: &[u8]) {
+    fn fill(&self, out: &mut [u8], answer: &[u8]) {
         out[..answer.len()].copy_from_slice(answer);
     }
 
     /// "A refusal [..] alters neither replica nor buffer": what a refused call does to the buffer.
-    fn spill(_refusal: Refusal, _out: &mut [u8], _answer: &[u8]) {}
+    fn spill(&self, _refusal: Refusal, _out: &mut [u8], _answer: &[u8]) {}
 
     /// The same, of the replica: what a refused write does to it.
-    fn refused_write(_refusal: Refusal, _held: &mut Held, _given: &Given) {}
+    fn refused_write(&self, _refusal: Refusal, _held: &mut Held, _given: &Given) {}
 
     // Reading
 
     /// "Winner: among live leaves the highest number, then the highest hash; with no live leaf, the
     /// same among deleted ones".
-    fn winner(leaves: &[Leaf]) -> Leaf {
-        let highest = Self::contenders(leaves)
+    fn winner(&self, leaves: &[Leaf]) -> Leaf {
+        let highest = self
+            .contenders(leaves)
             .into_iter()
-            .max_by(|a, b| Self::order(a.revision, b.revision));
+            .max_by(|a, b| self.order(a.revision, b.revision));
         highest.expect("a document has a revision, so it has a leaf")
     }
 
     /// The leaves that the winner is chosen among.
-    fn contenders(leaves: &[Leaf]) -> Vec<Leaf> {
+    fn contenders(&self, leaves: &[Leaf]) -> Vec<Leaf> {
         let live: Vec<Leaf> = leaves
             .iter()
             .copied()
@@ -252,82 +285,88 @@ pub trait Rules {
     }
 
     /// The higher number is higher; of equal ones the higher hash.
-    fn order(a: Revision, b: Revision) -> Ordering {
+    fn order(&self, a: Revision, b: Revision) -> Ordering {
         a.cmp(&b)
     }
 
     /// "The document's conflicts are its leaves other than the winner."
-    fn conflicts(leaves: &[Leaf], winner: Leaf) -> usize {
+    fn conflicts(&self, leaves: &[Leaf], winner: Leaf) -> usize {
         leaves.iter().filter(|&&leaf| leaf != winner).count()
     }
 
     /// "Of an absent document all are missing; so is number 0."
-    fn is_missing(document: Option<&Document>, revision: Revision) -> bool {
+    fn is_missing(&self, document: Option<&Document>, revision: Revision) -> bool {
         !document.is_some_and(|document| document.knows(revision))
     }
 
-    /// The documents whose own sequence is above s, lowest first.
-    fn documents_after(held: &Held, s: u32) -> Vec<(&[u8], &Document)> {
-        by_sequence(held, |document| document.sequence > s)
+    /// "the document with the lowest own sequence above s".
+    fn is_after(&self, own_sequence: u32, s: u32) -> bool {
+        own_sequence > s
     }
 
     // Pull
 
+    /// "Pull reads a source replica after a given sequence".
+    fn is_pulled(&self, own_sequence: u32, after: u32) -> bool {
+        self.is_after(own_sequence, after)
+    }
+
     /// "Documents come in order of their sequence".
-    fn pulled_documents(source: &Held, after: u32) -> Vec<(&[u8], &Document)> {
-        Self::documents_after(source, after)
+    fn pull_order(&self, a: (&[u8], &Document), b: (&[u8], &Document)) -> Ordering {
+        a.1.sequence.cmp(&b.1.sequence)
     }
 
     /// "every leaf is offered with its whole known path".
-    fn offered_path(document: &Document, leaf: Leaf) -> Vec<[u8; 16]> {
+    fn offered_path(&self, document: &Document, leaf: Leaf) -> Vec<Hash> {
         document.path(leaf.revision)
     }
 
     /// "also where the target knows the leaf": no leaf is passed over.
-    fn skips(_target: &Held, _id: &[u8], _source: &Document, _leaf: Leaf) -> bool {
+    fn skips(&self, _target: &Held, _id: &[u8], _source: &Document, _leaf: Leaf) -> bool {
         false
     }
 
     /// "A refused offer is counted and pull goes on with the next leaf."
-    fn stops_at_refusal() -> bool {
+    fn stops_at_refusal(&self) -> bool {
         false
     }
 
     // The stored image
 
     /// "Refusals, in order, each over the whole image".
-    const IMAGE_ORDER: &'static [u32] = &[20, 21, 22, 23, 24, 25, 26];
+    fn image_order(&self) -> &'static [u32] {
+        &[20, 21, 22, 23, 24, 25, 26]
+    }
 
     /// 20: "fewer than 16 bytes".
-    fn image_short(bytes: &[u8]) -> bool {
+    fn image_short(&self, bytes: &[u8]) -> bool {
         bytes.len() < 16
     }
 
     /// 21: "edition not 1".
-    fn other_edition(head: &Head) -> bool {
+    fn other_edition(&self, head: &Head) -> bool {
         head.edition != 1
     }
 
     /// 22: "head: zero field not zero, d over 32, r over 512, total not by the formula or not the
     /// given length".
-    fn bad_head(head: &Head, bytes: &[u8]) -> bool {
+    fn bad_head(&self, head: &Head, bytes: &[u8]) -> bool {
         let documents = usize::from(head.documents);
         let revisions = usize::from(head.revisions);
         head.zero != 0
-            || documents > Self::DOCUMENTS
-            || revisions > Self::REVISIONS
+            || documents > self.most_documents()
+            || revisions > self.most_revisions()
             || head.total as usize != image_bytes(documents, revisions)
             || head.total as usize != bytes.len()
     }
 
     /// 23: "contents entry, sequence aside; or the rows don't sum to r"; at "first bad entry; else d".
-    fn contents_fault(image: &Image) -> Option<u32> {
+    fn contents_fault(&self, image: &Image) -> Option<u32> {
         let mut rows = 0;
         for (index, entry) in image.entries.iter().enumerate() {
             let before = index.checked_sub(1).map(|before| &image.entries[before]);
-            if Self::bad_entry(image, entry, rows)
-                || before.is_some_and(|b| !Self::ascend(b, entry))
-            {
+            let ascends = before.is_none_or(|before| self.ascend(before, entry));
+            if !ascends || self.bad_entry(image, entry, rows) {
                 return Some(index as u32);
             }
             rows += usize::from(entry.rows);
@@ -337,18 +376,26 @@ pub trait Rules {
 
     /// "id length (1), id filled with zeros (32), zero (1) [..] Rows at least 1. Bodies follow in this
     /// order without a gap." The count is of the rows of all entries before.
-    fn bad_entry(image: &Image, entry: &Entry, rows_before: usize) -> bool {
-        bad_entry(image, entry, rows_before)
+    fn bad_entry(&self, image: &Image, entry: &Entry, rows_before: usize) -> bool {
+        let Some(id) = entry.id() else {
+            return true;
+        };
+        let filling = &entry.id[id.len()..];
+        id.is_empty()
+            || filling.iter().any(|&byte| byte != 0)
+            || entry.zero != 0
+            || entry.rows == 0
+            || entry.place as usize != image_bytes(image.entries.len(), rows_before)
     }
 
     /// "Ids strictly ascend, byte by byte, a prefix first." Of two out of order the later is bad.
-    fn ascend(before: &Entry, entry: &Entry) -> bool {
+    fn ascend(&self, before: &Entry, entry: &Entry) -> bool {
         before.id() < entry.id()
     }
 
     /// 24: "own sequence 0 or repeated; or the update sequence isn't the largest (0 if d is 0)"; at
     /// "first entry with 0 or repeating an earlier one; else d".
-    fn sequence_fault(image: &Image) -> Option<u32> {
+    fn sequence_fault(&self, image: &Image) -> Option<u32> {
         let mut seen = BTreeSet::from([0]);
         for (entry, index) in image.entries.iter().zip(0..) {
             if !seen.insert(entry.sequence) {
@@ -356,21 +403,23 @@ pub trait Rules {
             }
         }
         let largest = seen.last().copied().expect("0 is in it");
-        (!Self::update_sequence_fits(image.head.sequence, largest))
+        (!self.update_sequence_fits(image.head.sequence, largest))
             .then_some(image.entries.len() as u32)
     }
 
-    fn update_sequence_fits(update_sequence: u32, largest: u32) -> bool {
+    /// "the update sequence isn't the largest" is the fault.
+    fn update_sequence_fits(&self, update_sequence: u32, largest: u32) -> bool {
         update_sequence == largest
     }
 
     /// 25: "row by itself, or not above the row before it in its document"; at "first bad row".
-    fn row_fault(image: &Image) -> Option<u32> {
+    fn row_fault(&self, image: &Image) -> Option<u32> {
         for (first, rows) in image.bodies() {
             for (index, row) in rows.iter().enumerate() {
                 let before = index.checked_sub(1).map(|before| &rows[before]);
-                if Self::bad_row(row) || before.is_some_and(|b| b.revision() >= row.revision()) {
-                    return Some(Self::row_place(first, index));
+                let ascends = before.is_none_or(|before| before.revision() < row.revision());
+                if !ascends || self.bad_row(row) {
+                    return Some(self.row_place(first, index));
                 }
             }
         }
@@ -379,99 +428,66 @@ pub trait Rules {
 
     /// "kind, flag, zeros, number 0, parent at number 1, hash or label not zero": the parent hash
     /// where the parent is unknown, and the label of a row that isn't live.
-    fn bad_row(row: &Row) -> bool {
-        bad_row(row)
+    fn bad_row(&self, row: &Row) -> bool {
+        row.kind > 2
+            || row.parent_known > 1
+            || row.zero != 0
+            || row.number == 0
+            || (row.number == 1 && row.parent_known == 1)
+            || (row.parent_known == 0 && row.parent_hash != [0; 16])
+            || (row.kind != 1 && row.label != 0)
     }
 
     /// "Rows are counted from 0 through the whole image."
-    fn row_place(first: usize, index: usize) -> u32 {
+    fn row_place(&self, first: usize, index: usize) -> u32 {
         (first + index) as u32
     }
 
     /// "parent hash (16, zeros if unknown; a known one may be all zeros)". The parent is numbered one
     /// lower.
-    fn row_parent(row: &Row) -> Option<Revision> {
-        row_parent(row)
+    fn row_parent(&self, row: &Row) -> Option<Revision> {
+        if row.parent_known == 0 {
+            return None;
+        }
+        Some(Revision {
+            number: row.number.checked_sub(1)?,
+            hash: row.parent_hash,
+        })
     }
 
     /// 26: "known parent not in the document, or kind not fitting the children"; at "first bad row".
-    fn parent_fault(image: &Image) -> Option<u32> {
+    fn parent_fault(&self, image: &Image) -> Option<u32> {
         for (first, rows) in image.bodies() {
             let known: BTreeSet<Revision> = rows.iter().map(Row::revision).collect();
-            let with_child: BTreeSet<Revision> = rows.iter().filter_map(Self::row_parent).collect();
+            let parents = rows.iter().filter_map(|row| self.row_parent(row));
+            let with_child: BTreeSet<Revision> = parents.collect();
             for (index, row) in rows.iter().enumerate() {
-                let parent = Self::row_parent(row);
-                if parent.is_some_and(|parent| !Self::parent_is_in(&known, parent))
-                    || !Self::kind_fits(row.kind, with_child.contains(&row.revision()))
+                let parent = self.row_parent(row);
+                if parent.is_some_and(|parent| !self.parent_is_in(&known, parent))
+                    || !self.kind_fits(row.kind, with_child.contains(&row.revision()))
                 {
-                    return Some(Self::row_place(first, index));
+                    return Some(self.row_place(first, index));
                 }
             }
         }
         None
     }
 
-    fn parent_is_in(known: &BTreeSet<Revision>, parent: Revision) -> bool {
+    /// "known parent not in the document" is the fault.
+    fn parent_is_in(&self, known: &BTreeSet<Revision>, parent: Revision) -> bool {
         known.contains(&parent)
     }
 
     /// "0 has a child, 1 live, 2 deleted".
-    fn kind_fits(kind: u8, has_child: bool) -> bool {
+    fn kind_fits(&self, kind: u8, has_child: bool) -> bool {
         (kind == 0) == has_child
     }
 
     /// "A failed load leaves the former replica."
-    fn failed_load(_former: &mut Held) {}
+    fn failed_load(&self, _former: &mut Held) {}
 }
 
 /// Whether the child has a known parent other than the given one.
 pub fn crossed(document: &Document, child: Revision, parent: Revision) -> bool {
     document.parent(child).is_some_and(|known| known != parent)
-}
-
-/// The chosen documents, lowest own sequence first.
-pub fn by_sequence(held: &Held, chosen: impl Fn(&Document) -> bool) -> Vec<(&[u8], &Document)> {
-    let mut documents: Vec<_> = held
-        .documents
-        .iter()
-        .filter(|(_, document)| chosen(document))
-        .map(|(id, document)| (id.as_slice(), document))
-        .collect();
-    documents.sort_by_key(|(_, document)| document.sequence);
-    documents
-}
-
-/// The right rule behind [`Rules::bad_entry`].
-pub fn bad_entry(image: &Image, entry: &Entry, rows_before: usize) -> bool {
-    let Some(id) = entry.id() else {
-        return true;
-    };
-    let filling = &entry.id[id.len()..];
-    id.is_empty()
-        || filling.iter().any(|&byte| byte != 0)
-        || entry.zero != 0
-        || entry.rows == 0
-        || entry.place as usize != image_bytes(image.entries.len(), rows_before)
-}
-
-/// The right rule behind [`Rules::bad_row`].
-pub fn bad_row(row: &Row) -> bool {
-    row.kind > 2
-        || row.parent_known > 1
-        || row.zero != 0
-        || row.number == 0
-        || (row.number == 1 && row.parent_known == 1)
-        || (row.parent_known == 0 && row.parent_hash != [0; 16])
-        || (row.kind != 1 && row.label != 0)
-}
-
-/// The right rule behind [`Rules::row_parent`].
-pub fn row_parent(row: &Row) -> Option<Revision> {
-    if row.parent_known == 0 {
-        return None;
-    }
-    Some(Revision {
-        number: row.number.checked_sub(1)?,
-        hash: row.parent_hash,
-    })
 }

@@ -89,6 +89,22 @@ pub enum Step {
     },
 }
 
+impl Step {
+    /// The length of the buffer that is lent to the call, if it takes one.
+    pub fn room(&self) -> Option<usize> {
+        match self {
+            Step::Save { room, .. }
+            | Step::Winner { room, .. }
+            | Step::Leaves { room, .. }
+            | Step::Path { room, .. }
+            | Step::Missing { room, .. }
+            | Step::Changes { room, .. }
+            | Step::Report { room, .. } => Some(*room),
+            _ => None,
+        }
+    }
+}
+
 /// Steps to run one after the other on three fresh replicas.
 #[derive(Clone, PartialEq, Eq, Debug, Default)]
 pub struct Scenario {
@@ -241,14 +257,19 @@ impl Writer {
         self.random.below(REPLICAS)
     }
 
-    /// An id that a replica holds, or another, or one that is refused.
-    fn id(&mut self) -> Vec<u8> {
-        let length = *self.random.pick(&[0, 33, 33, 64]);
+    /// An id that the replica holds, or one of the others does, or that may be new, or is refused.
+    fn id(&mut self, at: usize) -> Vec<u8> {
         if self.random.percent(self.hostile) {
+            let length = *self.random.pick(&[0, 33, 33, 64]);
             return self.random.bytes(length);
         }
-        if self.random.percent(50) {
-            if let Some((id, _)) = some_document(&mut self.random, &self.replicas) {
+        let holders = match self.random.below(10) {
+            0..=5 => &self.replicas[at..=at],
+            6 | 7 => &self.replicas[..],
+            _ => &[],
+        };
+        if !holders.is_empty() {
+            if let Some((id, _)) = some_document(&mut self.random, holders) {
                 return id.to_vec();
             }
         }
@@ -302,7 +323,7 @@ impl Writer {
         let mut number = offer.number;
         let mut path = offer.hashes.concat();
         if self.random.percent(self.hostile) {
-            id = self.id();
+            id = self.id(at);
         }
         if self.random.percent(self.hostile) {
             let hash = self.alphabet.hash(&mut self.random);
@@ -329,7 +350,7 @@ impl Writer {
     }
 
     fn edit(&mut self, at: usize) -> Step {
-        let id = self.id();
+        let id = self.id(at);
         let mut hash = self.alphabet.hash(&mut self.random);
         let mut parent = None;
         if self.random.percent(75) {
@@ -365,13 +386,13 @@ impl Writer {
     fn winner(&mut self, at: usize) -> Step {
         Step::Winner {
             at,
-            id: self.id(),
+            id: self.id(at),
             room: self.room(29),
         }
     }
 
     fn leaves(&mut self, at: usize) -> Step {
-        let id = self.id();
+        let id = self.id(at);
         let document = self.replicas[at].held().documents.get(&id);
         let count = document.map_or(1, |document| document.leaves().len());
         Step::Leaves {
@@ -382,7 +403,7 @@ impl Writer {
     }
 
     fn path(&mut self, at: usize) -> Step {
-        let id = self.id();
+        let id = self.id(at);
         let revision = self.revision(&id);
         let document = self.replicas[at].held().documents.get(&id);
         let count = document.map_or(1, |document| document.path(revision).len());
@@ -396,7 +417,7 @@ impl Writer {
     }
 
     fn missing(&mut self, at: usize) -> Step {
-        let id = self.id();
+        let id = self.id(at);
         let mut asked = Vec::new();
         for _ in 0..self.random.below(7) {
             let revision = self.revision(&id);

@@ -274,7 +274,7 @@ impl<'a> Words<'a> {
             .chars()
             .map(|digit| Some(digit.to_digit(16)? as u8))
             .collect();
-        let digits = digits.filter(|digits| digits.len() % 2 == 0);
+        let digits = digits.filter(|digits| digits.len().is_multiple_of(2));
         let digits = digits.ok_or_else(wrong)?;
         Ok(digits
             .chunks(2)

@@ -2,6 +2,7 @@
 
 use refile_model::faults::{self, Fault};
 use refile_model::images::image;
+use refile_model::model::Model;
 use refile_model::scenario::scenario;
 
 /// So many scenarios, and ten times as many images, must be enough for each.
@@ -26,7 +27,7 @@ fn noticed(fault: &Fault) -> Option<(&'static str, u64)> {
 #[test]
 fn every_wrong_model_is_noticed() {
     let mut unnoticed = Vec::new();
-    for fault in faults::all() {
+    for fault in faults::all::<Model>() {
         match noticed(&fault) {
             Some((kind, seed)) => println!("{}: noticed by {kind} {seed}", fault.name),
             None => unnoticed.push(fault.name),
