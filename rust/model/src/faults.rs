@@ -340,8 +340,8 @@ impl Rules for UnchangedNeedsSequence {
 
 // Ordinary edit
 
-/// The right parent rule, with the winner as parent whatever its content, any content for an edit
-/// that names no parent, or any leaf or revision that a named parent may be.
+/// The parent rule with its two conditions left open: what a named parent must be, and what the
+/// winner, if there is a document, must be where none is named.
 fn base_of(
     rules: &dyn Rules,
     held: &Held,

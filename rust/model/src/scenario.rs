@@ -198,7 +198,7 @@ impl Writer {
         }
     }
 
-    /// Paths about the most hashes, documents about the most documents.
+    /// Paths about the most hashes, written and read back, and documents about the most documents.
     fn open_with_long_paths(&mut self) {
         let id = self.alphabet.id(&mut self.random);
         for count in [511, 512, 513] {
@@ -212,6 +212,18 @@ impl Writer {
                 number,
                 path,
                 content,
+            });
+        }
+        for at in 0..2 {
+            let held = self.replicas[at].held();
+            let newest = held.documents[&id].leaves()[0].revision;
+            let room = 16 * held.revisions() - self.random.below(2);
+            self.push(Step::Path {
+                at,
+                id: id.clone(),
+                number: newest.number,
+                hash: newest.hash,
+                room,
             });
         }
         for document in 0..33 {
@@ -419,7 +431,8 @@ impl Writer {
     fn missing(&mut self, at: usize) -> Step {
         let id = self.id(at);
         let mut asked = Vec::new();
-        for _ in 0..self.random.below(7) {
+        let most = *self.random.pick(&[7, 7, 7, 60]);
+        for _ in 0..self.random.below(most) {
             let revision = self.revision(&id);
             asked.extend(revision.number.to_be_bytes());
             asked.extend(revision.hash);

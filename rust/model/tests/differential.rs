@@ -8,8 +8,8 @@ use refile_model::scenario::{scenario, Scenario, Step, REPLICAS};
 use refile_model::{Change, Content, Counts, Refusal, Replica};
 use std::collections::BTreeSet;
 
-const SCENARIOS: u64 = 2_000;
-const IMAGES: u64 = 20_000;
+const SCENARIOS: u64 = 1_000;
+const IMAGES: u64 = 10_000;
 
 /// The model, saved and loaded after every call that may alter it.
 #[derive(Clone)]
@@ -243,37 +243,4 @@ fn images_reach_every_refusal_and_many_places() {
         let reached = reached.count();
         assert!(reached >= least, "{number} at {reached} places");
     }
-}
-
-/// What the documents of a replica have in common with those of another after they agree: all but
-/// the sequences.
-fn without_sequences(replica: &Model) -> Vec<(Vec<u8>, refile_model::model::Document)> {
-    let documents = replica.held().documents.clone();
-    let unnumbered = documents.into_iter().map(|(id, mut document)| {
-        document.sequence = 0;
-        (id, document)
-    });
-    unnumbered.collect()
-}
-
-#[test]
-fn replicas_that_pull_without_refusal_agree() {
-    let mut agreed = 0;
-    for seed in 0..SCENARIOS / 4 {
-        let mut replicas: [Model; REPLICAS] = std::array::from_fn(|_| Model::fresh());
-        for step in scenario(seed).steps {
-            apply(&mut replicas, &step);
-        }
-        let mut refused = 0;
-        for (at, from) in [(0, 1), (0, 2), (1, 0), (2, 0)] {
-            let source = replicas[from].clone();
-            refused += replicas[at].pull(&source, 0).refused;
-        }
-        if refused == 0 {
-            let [first, second, third] = replicas.each_ref().map(without_sequences);
-            assert!(first == second && first == third, "scenario {seed}");
-            agreed += 1;
-        }
-    }
-    assert!(agreed > 0, "some must pull without refusal");
 }
