@@ -157,9 +157,9 @@ pub documents-room : tries (after (shelf 32)) (on lot 1 (0x20 ∷ []) (Live 1) �
 unfolding pieces join any firstThat find alter orderN orderBytes orderRev sameRev documentOf treeOf revisionsHeld hashes along gives addAll added isNew isAddition adds countNew badId badPath lowNumber otherParent otherContent documentsFull revisionsFull sequenceSpent roomRefusals writeRefusals write writeAll shelf
 documents-room = refl
 
--- 7 "revisions held plus new ones exceed 512": known ones don't count
-pub revisions-room : tries (after (trunk 511 ∷ [])) (on lot 512 (0x02 ∷ 0x01 ∷ []) (Live 1) ∷ on lot 513 (0x02 ∷ 0x02 ∷ 0x01 ∷ []) (Live 1) ∷ on lot 1 (0x03 ∷ []) (Live 1) ∷ on (0x61 ∷ []) 2 (0x03 ∷ 0x02 ∷ []) (Live 1) ∷ trunk 511 ∷ [])
-    ≡ (0, 1) ∷ (7, 0) ∷ (0, 1) ∷ (7, 0) ∷ (0, 0) ∷ []
+-- 7 "revisions held plus new ones exceed 512": the known one of a path doesn't count
+pub revisions-room : tries (after (trunk 511 ∷ [])) (on lot 512 (0x02 ∷ 0x01 ∷ []) (Live 1) ∷ on lot 513 (0x02 ∷ 0x02 ∷ 0x01 ∷ []) (Live 1) ∷ [])
+    ≡ (0, 1) ∷ (7, 0) ∷ []
 unfolding pieces join any firstThat find alter orderN orderBytes orderRev sameRev documentOf treeOf revisionsHeld hashes along gives addAll added isNew isAddition adds countNew badId badPath lowNumber otherParent otherContent documentsFull revisionsFull sequenceSpent roomRefusals writeRefusals write writeAll
 revisions-room = refl
 
