@@ -3,3 +3,4 @@ pub mod OrderLaws
 pub mod MapLaws
 pub mod Examples
 pub mod ByteLaws
+pub mod Readings
