@@ -74,8 +74,8 @@ impl fmt::Display for Outcome {
     }
 }
 
-/// The byte that a lent buffer holds at an index before the call. It differs from place to place, so
-/// that bytes moved within a buffer are seen as well as bytes written.
+/// The byte that a lent buffer holds at an index before the call. It differs from place to place,
+/// so that bytes moved within a buffer are seen as well as bytes written.
 pub fn pattern(index: usize) -> u8 {
     0xa5 ^ (index as u8).wrapping_mul(29)
 }
@@ -93,8 +93,8 @@ fn image_of<R: Replica>(replica: &R) -> Result<Vec<u8>, Refusal> {
     Ok(out)
 }
 
-/// Pulls into one of the replicas. The source is lent as it stands, so that a pull that alters it is
-/// seen; only a replica that is pulled from itself is copied first.
+/// Pulls into one of the replicas. The source is lent as it stands, so that a pull that alters it
+/// is seen; only a replica that is pulled from itself is copied first.
 fn pull<R: Replica>(replicas: &mut [R; REPLICAS], at: usize, from: usize, after: u32) -> Counts {
     if at == from {
         let source = replicas[from].clone();

@@ -103,10 +103,11 @@ fn filled(random: &mut Random, documents: usize, revisions: usize) -> Model {
 pub fn end_sequences(random: &mut Random, image: &[u8]) -> Vec<u8> {
     let mut image = Image::read(image).expect("a sound image");
     if !image.entries.is_empty() {
-        let raise = u32::MAX - image.head.sequence - random.below(4) as u32;
-        image.head.sequence = image.head.sequence.saturating_add(raise);
+        let left = u32::MAX - image.head.sequence;
+        let raise = left.saturating_sub(random.below(4) as u32);
+        image.head.sequence += raise;
         for entry in &mut image.entries {
-            entry.sequence = entry.sequence.saturating_add(raise);
+            entry.sequence += raise;
         }
     }
     image.bytes()
@@ -218,8 +219,8 @@ fn refit(image: &mut Image) {
     }
 }
 
-/// Changes fields that hang together, so that what a single field would give away is passed, and the
-/// later refusals are reached.
+/// Changes fields that hang together, so that what a single field would give away is passed, and
+/// the later refusals are reached.
 fn rearrange(random: &mut Random, image: &mut Image) {
     if image.entries.is_empty() || image.rows.is_empty() {
         return spoil_head(random, image);
@@ -458,9 +459,9 @@ pub fn traps() -> Vec<(&'static str, Vec<u8>)> {
     ]
 }
 
-/// The steps that look at an image: the load on top of a former replica, what is saved after it, the
-/// report into a buffer that is exact and into one that is a byte short, and, of a sound image, what
-/// the reads and a pull make of it.
+/// The steps that look at an image: the load on top of a former replica, what is saved after it,
+/// the report into a buffer that is exact and into one that is a byte short, and, of a sound image,
+/// what the reads and a pull make of it.
 pub fn checking(image: &[u8]) -> Scenario {
     let mut loaded = lot();
     let accepted = loaded.load(image).is_ok();

@@ -18,8 +18,8 @@ pub struct Head {
     pub total: u32,
 }
 
-/// "Contents, 44 bytes a document: id length (1), id filled with zeros (32), zero (1), rows (2), own
-/// sequence (4), byte place of its first row (4)."
+/// "Contents, 44 bytes a document: id length (1), id filled with zeros (32), zero (1), rows (2),
+/// own sequence (4), byte place of its first row (4)."
 #[derive(Clone, PartialEq, Eq, Debug)]
 pub struct Entry {
     pub id_length: u8,

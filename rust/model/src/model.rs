@@ -28,8 +28,8 @@ pub struct Leaf {
     pub content: Content,
 }
 
-/// The revisions known, the known parents, the contents of the leaves, and "the sequence of its last
-/// change".
+/// The revisions known, the known parents, the contents of the leaves, and "the sequence of its
+/// last change".
 #[derive(Clone, PartialEq, Eq, Debug, Default)]
 pub struct Document {
     pub revisions: BTreeSet<Revision>,
@@ -73,8 +73,8 @@ impl Document {
         leaves.into_iter().find(|leaf| leaf.revision == revision)
     }
 
-    /// "Path of a known revision: the revision itself, followed by the path of its parent, as far as
-    /// parents are known."
+    /// "Path of a known revision: the revision itself, followed by the path of its parent, as far
+    /// as parents are known."
     pub fn path(&self, revision: Revision) -> Vec<Hash> {
         let mut hashes = vec![revision.hash];
         if let Some(parent) = self.parent(revision) {
@@ -243,8 +243,8 @@ fn first_refusal(order: &[u32], holds: impl Fn(u32) -> bool) -> Result<(), Refus
     }
 }
 
-/// "A refusal [..] alters neither replica nor buffer. An accepted call writes the answer at the front
-/// of the buffer and leaves the bytes after it."
+/// "A refusal [..] alters neither replica nor buffer. An accepted call writes the answer at the
+/// front of the buffer and leaves the bytes after it."
 fn lend(
     rules: &dyn Rules,
     refused: Result<(), Refusal>,
@@ -304,8 +304,8 @@ fn leaves_in_order(rules: &dyn Rules, document: &Document) -> Vec<Leaf> {
 }
 
 impl Held {
-    /// "Reads of a document check 1, 12, 13 (path only), 14". The revision is the one that a path is
-    /// asked of. Gives the answer back once it is lent.
+    /// "Reads of a document check 1, 12, 13 (path only), 14". The revision is the one that a path
+    /// is asked of. Gives the answer back once it is lent.
     fn read(
         &self,
         rules: &dyn Rules,
@@ -385,8 +385,8 @@ impl Held {
     }
 
     /// "Changes after s: the document with the lowest own sequence above s: its id written out, and
-    /// answered its id length, that sequence, its leaf count and whether its winner is a deletion; or
-    /// "no more", nothing written."
+    /// answered its id length, that sequence, its leaf count and whether its winner is a deletion;
+    /// or "no more", nothing written."
     fn changes(
         &self,
         rules: &dyn Rules,
@@ -430,8 +430,8 @@ fn pulled_documents<'a>(
 }
 
 impl Held {
-    /// "Pull reads a source replica after a given sequence and writes a target. [..] A refused offer
-    /// is counted and pull goes on with the next leaf. The answer has three counts: changed,
+    /// "Pull reads a source replica after a given sequence and writes a target. [..] A refused
+    /// offer is counted and pull goes on with the next leaf. The answer has three counts: changed,
     /// unchanged, refused."
     fn pull(&mut self, rules: &dyn Rules, source: &Held, after: u32) -> Counts {
         let mut counts = Counts::default();
@@ -518,8 +518,8 @@ impl Held {
         }
     }
 
-    /// "An image loads exactly if it meets every rule. Refusals, in order, each over the whole image
-    /// [..] A failed load leaves the former replica."
+    /// "An image loads exactly if it meets every rule. Refusals, in order, each over the whole
+    /// image [..] A failed load leaves the former replica."
     fn load(&mut self, rules: &dyn Rules, bytes: &[u8]) -> Result<(), Refusal> {
         for &number in rules.image_order() {
             if let Some(place) = image_fault(rules, number, bytes) {
@@ -640,8 +640,8 @@ fn document_line(rules: &dyn Rules, id: &[u8], document: &Document) -> DocumentL
     }
 }
 
-/// "A refused image prints `refused N at P`. An accepted one prints a head line [..] and one line per
-/// document in image order".
+/// "A refused image prints `refused N at P`. An accepted one prints a head line [..] and one line
+/// per document in image order".
 fn text(rules: &dyn Rules, image: &[u8]) -> String {
     let mut held = Held::default();
     if let Err(Refusal { number, place }) = held.load(rules, image) {

@@ -172,8 +172,8 @@ pub trait Rules {
         (given.number as usize) < given.path.len() / 16
     }
 
-    /// 4: "a revision of the path has a known parent other than the one the path gives it (the oldest
-    /// is given none, so never counts)".
+    /// 4: "a revision of the path has a known parent other than the one the path gives it (the
+    /// oldest is given none, so never counts)".
     fn other_parent(&self, held: &Held, given: &Given) -> bool {
         let Some(document) = self.document(held, given.id) else {
             return false;
@@ -247,7 +247,8 @@ pub trait Rules {
         !asked.len().is_multiple_of(20)
     }
 
-    /// "An accepted call writes the answer at the front of the buffer and leaves the bytes after it."
+    /// "An accepted call writes the answer at the front of the buffer and leaves the bytes after
+    /// it."
     fn fill(&self, out: &mut [u8], answer: &[u8]) {
         out[..answer.len()].copy_from_slice(answer);
     }
@@ -360,7 +361,8 @@ pub trait Rules {
             || head.total as usize != bytes.len()
     }
 
-    /// 23: "contents entry, sequence aside; or the rows don't sum to r"; at "first bad entry; else d".
+    /// 23: "contents entry, sequence aside; or the rows don't sum to r"; at "first bad entry; else
+    /// d".
     fn contents_fault(&self, image: &Image) -> Option<u32> {
         let mut rows = 0;
         for (index, entry) in image.entries.iter().enumerate() {
@@ -374,8 +376,8 @@ pub trait Rules {
         (rows != image.rows.len()).then_some(image.entries.len() as u32)
     }
 
-    /// "id length (1), id filled with zeros (32), zero (1) [..] Rows at least 1. Bodies follow in this
-    /// order without a gap." The count is of the rows of all entries before.
+    /// "id length (1), id filled with zeros (32), zero (1) [..] Rows at least 1. Bodies follow in
+    /// this order without a gap." The count is of the rows of all entries before.
     fn bad_entry(&self, image: &Image, entry: &Entry, rows_before: usize) -> bool {
         let Some(id) = entry.id() else {
             return true;
@@ -443,8 +445,8 @@ pub trait Rules {
         (first + index) as u32
     }
 
-    /// "parent hash (16, zeros if unknown; a known one may be all zeros)". The parent is numbered one
-    /// lower.
+    /// "parent hash (16, zeros if unknown; a known one may be all zeros)". The parent is numbered
+    /// one lower.
     fn row_parent(&self, row: &Row) -> Option<Revision> {
         if row.parent_known == 0 {
             return None;
@@ -455,7 +457,8 @@ pub trait Rules {
         })
     }
 
-    /// 26: "known parent not in the document, or kind not fitting the children"; at "first bad row".
+    /// 26: "known parent not in the document, or kind not fitting the children"; at "first bad
+    /// row".
     fn parent_fault(&self, image: &Image) -> Option<u32> {
         for (first, rows) in image.bodies() {
             let known: BTreeSet<Revision> = rows.iter().map(Row::revision).collect();
