@@ -4,9 +4,7 @@ use mathlib.Core.Path.{_≡_, refl}
 use mathlib.Core.Bool.{Bool, true, false}
 use mathlib.Core.List.{List, [], _∷_, _++_, map}
 use mathlib.Core.Option.{none, some}
-use Prim.Native.Char.{code}
 use Prim.Native.Nat.{ℕ, zero, suc, _+_, _*_}
-use Prim.Native.String.{String}
 use lib.ListN.{length, take, drop, replicate}
 use Rattle.rules.specs.declared.Answered.{Answered}
 use Rattle.rules.specs.declared.Answered.the-variants as answered
@@ -26,6 +24,7 @@ use Rattle.rules.specs.declared.Refusal.the-variants.{BadId, BadPath, Lo
 use Rattle.rules.specs.declared.Revision.{Revision}
 use Rattle.rules.specs.declared.Written.{Written}
 use Rattle.rules.specs.declared.Written.the-variants as written
+use Rattle.rules.specs.Answer.{writtenNumber, editedNumber, answeredNumber, loadedNumber}
 use Rattle.rules.specs.Bytes.{be, valueFrom, value, part, pieces, join}
 use Rattle.rules.specs.Choice.{any, firstThat}
 use Rattle.rules.specs.Edit.{Edit, isLeaf, deletedWinner, parentOf, parentRule, newNumber, asWrite, alreadyKnown, lastNumber, editRefusals, edit}
@@ -37,33 +36,24 @@ use Rattle.rules.specs.Pull.{offer, offersOf, offersIn, offers, count, t
 use Rattle.rules.specs.Read.{leaves, orderLeaf, highest, winner, notAt, conflicts, leafBytes, ancestry, pathOf, askedRev, missingByte, missing, insertBySeq, documentsAfter, front, shortBuffer, reads, documentRefusals, readWinner, readLeaves, readPath, readMissing, changeOf, readChanges}
 use Rattle.rules.specs.Refusal.{refusalNumber, faultNumber}
 use Rattle.rules.specs.Replica.{Id, revision, Node, Replica, fresh, documentOf, treeOf, revisionsHeld}
-use Rattle.rules.specs.Report.{digits, trim, decimal, hexDigit, hex, lineOf, revText, lineText, headText, replicaText, refusedText, report, inputMost}
+use Rattle.rules.specs.Report.{digits, trim, decimal, hexDigit, hex, lineOf, revText, lineText, headText, replicaText, refusedText, report, text, inputMost}
 use Rattle.rules.specs.Room.{documentsMost, revisionsMost, last}
 use Rattle.rules.specs.Union.{trees, writeAll, allFrom}
 use Rattle.rules.specs.Write.{Write, hashes, along, gives, addAll, added, isNew, isAddition, adds, countNew, badId, badPath, lowNumber, otherParent, otherContent, documentsFull, revisionsFull, sequenceSpent, roomRefusals, writeRefusals, write}
 
 -- ---- how the examples are written down
 
--- a text's bytes
-unfoldable pub text : String → List ℕ
-text String.[] = []
-text (String._∷_ c s) = code c ∷ text s
-
 -- an answer as its refusal's number, 0 if accepted, and its value: of a write 1 changed, 0 unchanged
 abbrev pub wrote : Written → ℕ × ℕ
-wrote (written.Accepted Changed) = (0, 1)
-wrote (written.Accepted Unchanged) = (0, 0)
-wrote (written.Refused n) = (refusalNumber n, 0)
+wrote a = (writtenNumber a .refusal, writtenNumber a .value)
 
 -- of an edit the new number
 abbrev pub edits : Edited → ℕ × ℕ
-edits (edited.Accepted n) = (0, n .0)
-edits (edited.Refused n) = (refusalNumber n, 0)
+edits a = (editedNumber a .refusal, editedNumber a .value)
 
 -- of a read what it answers, with the buffer as it is left
 abbrev pub readAs : Answered × List ℕ → ℕ × ℕ × List ℕ
-readAs (answered.Count n, out) = (0, n, out)
-readAs (answered.Refused n, out) = (refusalNumber n, 0, out)
+readAs o = (answeredNumber (o .0) .refusal, answeredNumber (o .0) .value, o .1)
 
 -- what writes leave of a fresh replica
 abbrev pub after : List Write → Replica
@@ -447,8 +437,7 @@ unfolding pieces join any firstThat find alter orderN orderBytes orderRev sameRe
 image-bytes = refl
 
 abbrev pub loadAs : Loaded → ℕ × ℕ
-loadAs loaded.Accepted = (0, 0)
-loadAs (loaded.Refused f p) = (faultNumber f, p)
+loadAs a = (loadedNumber a .refusal, loadedNumber a .value)
 
 -- the image with bytes put at a place
 unfoldable pub put : List (ℕ × List ℕ) → List ℕ → List ℕ

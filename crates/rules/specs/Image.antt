@@ -138,8 +138,8 @@ entryOf e =
     let n = getD e 0 0 in
     record {
       size = n;
-      id = take n (part 1 32 e);
-      fill = drop n (part 1 32 e);
+      id = take n (part 1 idMost e);
+      fill = drop n (part 1 idMost e);
       zero = getD e 33 0;
       rows = value (part 34 2 e);
       seq = value (part 36 4 e);
@@ -156,11 +156,11 @@ pub record Row : Type 0 where
 
 unfoldable pub rowOf : List ℕ → Row
 rowOf w = record {
-  rev = revision (value (part 0 4 w)) (part 4 16 w);
+  rev = revision (value (part 0 4 w)) (part 4 hashSize w);
   kind = getD w 20 0;
   flag = getD w 21 0;
   zero = value (part 22 2 w);
-  parent = part 24 16 w;
+  parent = part 24 hashSize w;
   label = value (part 40 8 w);
 }
 

@@ -5,6 +5,7 @@ pub mod Order
 pub mod Map
 pub mod Room
 pub mod Refusal
+pub mod Answer
 pub mod Replica
 pub mod Write
 pub mod Read

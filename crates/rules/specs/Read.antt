@@ -21,7 +21,7 @@ use Rattle.rules.specs.declared.Seq.{Seq}
 use Rattle.rules.specs.Bytes.{be, value, part, pieces, join}
 use Rattle.rules.specs.Choice.{pick, maybe, firstThat}
 use Rattle.rules.specs.Map.{Map, find}
-use Rattle.rules.specs.Order.{orderN, orderRev, andThen, isLess}
+use Rattle.rules.specs.Order.{orderN, orderRev, andThen, isLess, sameRev}
 use Rattle.rules.specs.Replica.{Id, Hash, revision, Node, Tree, Document, Replica, documentOf, treeOf, revisionsHeld}
 use Rattle.rules.specs.Write.{badId, isNone}
 
@@ -65,7 +65,7 @@ winner t = highest (leaves t)
 -- "The document's conflicts are its leaves other than the winner."
 unfoldable pub notAt : Revision → List LeafOf → List LeafOf
 notAt v [] = []
-notAt v (a ∷ more) = pick (isNone (find orderRev v ((a .rev, a) ∷ []))) (a ∷ notAt v more) (notAt v more)
+notAt v (a ∷ more) = pick (sameRev v (a .rev)) (notAt v more) (a ∷ notAt v more)
 
 unfoldable pub conflicts : Tree → List LeafOf
 conflicts t = maybe [] (λ w. notAt (w .rev) (leaves t)) (winner t)

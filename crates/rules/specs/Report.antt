@@ -1,17 +1,19 @@
 -- "The check program": what it prints for the bytes that it read.
 use mathlib.Core.List.{List, [], _∷_, _++_, map}
-use mathlib.Core.Option.{Option, none, some}
+use Prim.Native.Char.{code}
 use Prim.Native.Nat.{ℕ, zero, suc, _+_, _/_, _%_}
+use Prim.Native.String.{String}
 use lib.Dec.{eqb, ltb}
-use lib.ListN.{length, replicate}
+use lib.ListN.{length, take}
 use Rattle.rules.specs.declared.Answered.{Answered}
 use Rattle.rules.specs.declared.Fault.{Fault}
 use Rattle.rules.specs.declared.Revision.{Revision}
 use Rattle.rules.specs.declared.Seq.{Seq}
 use Rattle.rules.specs.Bytes.{join}
 use Rattle.rules.specs.Choice.{pick, maybe, firstThat}
-use Rattle.rules.specs.Image.{faults, replicaIn}
-use Rattle.rules.specs.Read.{LeafOf, leaves, winner, conflicts, reads}
+use Rattle.rules.specs.Image.{faults, replicaIn, totalLength}
+use Rattle.rules.specs.Room.{documentsMost, revisionsMost}
+use Rattle.rules.specs.Read.{leaves, winner, conflicts, reads}
 use Rattle.rules.specs.Refusal.{faultNumber}
 use Rattle.rules.specs.Replica.{Id, Document, Replica, revision, revisionsHeld}
 
@@ -40,41 +42,10 @@ unfoldable pub hex : List ℕ → List ℕ
 hex [] = []
 hex (b ∷ bs) = hexDigit (b / 16) ∷ hexDigit (b % 16) ∷ hex bs
 
--- "each line ends with a newline"
-abbrev pub newline : List ℕ
-newline = 10 ∷ []
-
--- "seq "
-abbrev pub seq-word : List ℕ
-seq-word = 115 ∷ 101 ∷ 113 ∷ 32 ∷ []
-
--- " documents "
-abbrev pub documents-word : List ℕ
-documents-word = 32 ∷ 100 ∷ 111 ∷ 99 ∷ 117 ∷ 109 ∷ 101 ∷ 110 ∷ 116 ∷ 115 ∷ 32 ∷ []
-
--- " revisions "
-abbrev pub revisions-word : List ℕ
-revisions-word = 32 ∷ 114 ∷ 101 ∷ 118 ∷ 105 ∷ 115 ∷ 105 ∷ 111 ∷ 110 ∷ 115 ∷ 32 ∷ []
-
--- " winner "
-abbrev pub winner-word : List ℕ
-winner-word = 32 ∷ 119 ∷ 105 ∷ 110 ∷ 110 ∷ 101 ∷ 114 ∷ 32 ∷ []
-
--- " leaves "
-abbrev pub leaves-word : List ℕ
-leaves-word = 32 ∷ 108 ∷ 101 ∷ 97 ∷ 118 ∷ 101 ∷ 115 ∷ 32 ∷ []
-
--- " conflicts "
-abbrev pub conflicts-word : List ℕ
-conflicts-word = 32 ∷ 99 ∷ 111 ∷ 110 ∷ 102 ∷ 108 ∷ 105 ∷ 99 ∷ 116 ∷ 115 ∷ 32 ∷ []
-
--- "refused "
-abbrev pub refused-word : List ℕ
-refused-word = 114 ∷ 101 ∷ 102 ∷ 117 ∷ 115 ∷ 101 ∷ 100 ∷ 32 ∷ []
-
--- " at "
-abbrev pub at-word : List ℕ
-at-word = 32 ∷ 97 ∷ 116 ∷ 32 ∷ []
+-- a text's bytes
+unfoldable pub text : String → List ℕ
+text String.[] = []
+text (String._∷_ c s) = code c ∷ text s
 
 -- ---- the lines
 
@@ -98,25 +69,27 @@ lineOf d = record {
 
 -- "winner as number and hash"
 unfoldable pub revText : Revision → List ℕ
-revText v = decimal (v .number .0) ++ (45 ∷ hex (v .hash))
+revText v = decimal (v .number .0) ++ (text "-" ++ hex (v .hash))
 
 -- "id in hex, own sequence, winner as number and hash, leaf count, conflict count"
 unfoldable pub lineText : Line → List ℕ
 lineText l =
     hex (l .id)
-    ++ (32 ∷ (seq-word
+    ++ (text " seq "
     ++ (decimal (l .seq .0)
-    ++ (winner-word
+    ++ (text " winner "
     ++ (revText (l .winner)
-    ++ (leaves-word ++ (decimal (l .leaves) ++ (conflicts-word ++ (decimal (l .conflicts) ++ newline)))))))))
+    ++ (text " leaves "
+    ++ (decimal (l .leaves) ++ (text " conflicts " ++ (decimal (l .conflicts) ++ text "\n"))))))))
 
 -- "a head line (update sequence, documents, revisions)"
 unfoldable pub headText : Replica → List ℕ
 headText r =
-    seq-word
+    text "seq "
     ++ (decimal (r .seq .0)
-    ++ (documents-word
-    ++ (decimal (length (r .documents)) ++ (revisions-word ++ (decimal (revisionsHeld (r .documents)) ++ newline)))))
+    ++ (text " documents "
+    ++ (decimal (length (r .documents))
+    ++ (text " revisions " ++ (decimal (revisionsHeld (r .documents)) ++ text "\n")))))
 
 -- "and one line per document in image order"
 unfoldable pub replicaText : Replica → List ℕ
@@ -124,15 +97,20 @@ replicaText r = headText r ++ join (map (λ d. lineText (lineOf d)) (r .document
 
 -- "A refused image prints `refused N at P`."
 unfoldable pub refusedText : Fault × ℕ → List ℕ
-refusedText f = refused-word ++ (decimal (faultNumber (f .0)) ++ (at-word ++ (decimal (f .1) ++ newline)))
+refusedText f =
+    text "refused " ++ (decimal (faultNumber (f .0)) ++ (text " at " ++ (decimal (f .1) ++ text "\n")))
 
 unfoldable pub report : List ℕ → List ℕ
 report s = maybe (replicaText (replicaIn s)) refusedText (firstThat (faults s))
 
 -- the report written to a lent buffer
 unfoldable pub readReport : List ℕ → List ℕ → Answered × List ℕ
-readReport s out = let text = report s in reads [] (length text) text out
+readReport s out = let bytes = report s in reads [] (length bytes) bytes out
 
--- "The largest image has 26,000 bytes"; "Input past 26,001 bytes is not read."
+-- "Input past 26,001 bytes is not read.": one more than the largest image
 abbrev pub inputMost : ℕ
-inputMost = 26001
+inputMost = suc (totalLength documentsMost revisionsMost)
+
+-- what the program prints for its input
+unfoldable pub printed : List ℕ → List ℕ
+printed input = report (take inputMost input)

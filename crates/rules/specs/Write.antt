@@ -1,6 +1,6 @@
 -- "Writing a path", and the refusals 1 to 8.
 use mathlib.Core.Bool.{Bool, true, false, not, _&&_, _||_}
-use mathlib.Core.List.{List, [], _∷_}
+use mathlib.Core.List.{List, [], _∷_, _++_}
 use mathlib.Core.Option.{Option, none, some}
 use Prim.Native.Nat.{ℕ, zero, suc, pred, _+_, _/_, _%_}
 use lib.Dec.{eqb, leb, ltb}
@@ -154,7 +154,7 @@ unfoldable pub sequenceSpent : Replica → Write → Bool
 sequenceSpent r w = adds r w && eqb (r .seq .0) last
 
 -- "A write is well-formed if 1 to 3 below don't refuse it."
-unfoldable pub formRefusals : Write → List (Bool × Refusal)
+abbrev pub formRefusals : Write → List (Bool × Refusal)
 formRefusals w = (badId (w .id), BadId) ∷ (badPath w, BadPath) ∷ (lowNumber w, LowNumber) ∷ []
 
 unfoldable pub roomRefusals : Replica → Write → List (Bool × Refusal)
@@ -164,12 +164,10 @@ roomRefusals r w =
 -- "A path write checks 1 to 8 in that order."
 unfoldable pub writeRefusals : Replica → Write → List (Bool × Refusal)
 writeRefusals r w =
-    (badId (w .id), BadId)
-    ∷ (badPath w, BadPath)
-    ∷ (lowNumber w, LowNumber)
-    ∷ (any (otherParent (treeOf r (w .id))) (gives w), OtherParent)
+    formRefusals w
+    ++ ((any (otherParent (treeOf r (w .id))) (gives w), OtherParent)
     ∷ (any (otherContent (treeOf r (w .id))) (gives w), OtherContent)
-    ∷ roomRefusals r w
+    ∷ roomRefusals r w)
 
 -- ---- the write
 

@@ -103,7 +103,6 @@ pub record Well (w : Write) : Type 0 where
   pub number-ok : lowNumber w ≡ false
 
 pub well : (w : Write) → firstThat (formRefusals w) ≡ none → Well w
-unfolding formRefusals
 well w e = let t = none-first (formRefusals w) e in record { id-ok = t .0; path-ok = t .1 .0; number-ok = t .1 .1 .0 }
 
 -- the three parts of refusal 2
