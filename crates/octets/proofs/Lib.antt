@@ -2,3 +2,4 @@
 pub mod SpliceLaws
 pub mod NumberLaws
 pub mod ByteOrderLaws
+pub mod Outcomes
