@@ -5,7 +5,9 @@
  * Its bytes are only ever what these calls made: begin with refile_fresh or refile_load, and bring
  * foreign bytes in by refile_load, never by copying them into a replica.
  *
- * One convention for every call. The result is one 64-bit number:
+ * One convention for every call. The result is one 64-bit number: of an accepted call the answer,
+ * which is below 2^63; of a refused one 2^63, the refusal's number times 2^32, and the place of an
+ * image's fault, 0 for every other refusal. Take it apart with
  *
  *     refile_refusal(result)   0 if the call was accepted, else the refusal's number
  *     refile_value(result)     the answer of an accepted call; of a refused image the place of the
@@ -43,10 +45,10 @@ extern "C" {
 #define REFILE_ASKED_BYTES 20u      /* an asked revision: number (4), hash (16) */
 #define REFILE_REPLICA_BYTES 26000u /* a replica's buffer */
 #define REFILE_IMAGE_MOST 26000u    /* the largest image */
-#define REFILE_REPORT_MOST 8192u    /* no report is longer */
-#define REFILE_CHANGES_BYTES 16u    /* the answer buffer of refile_changes */
-#define REFILE_PULL_BYTES 12u       /* the answer buffer of refile_pull */
-#define REFILE_COUNTS_BYTES 8u      /* the answer buffer of refile_counts */
+#define REFILE_REPORT_MOST 5497u    /* no report is longer */
+#define REFILE_CHANGES_BYTES 16u    /* what refile_changes writes to answer */
+#define REFILE_PULL_BYTES 12u       /* what refile_pull writes to answer */
+#define REFILE_COUNTS_BYTES 8u      /* what refile_counts writes to answer */
 
 /* The kinds of content, as in an image row. */
 #define REFILE_LIVE 1u
@@ -84,10 +86,13 @@ extern "C" {
 #define REFILE_BAD_FLAG 103u      /* a flag other than 0 and 1 */
 #define REFILE_BAD_HASH 104u      /* a hash that is not 16 bytes */
 #define REFILE_BAD_NO_PARENT 105u /* no parent is named, and a parent number or hash is given */
-#define REFILE_BAD_ANSWER 106u    /* an answer buffer whose length is not the one documented */
 
-static inline uint32_t refile_refusal(uint64_t result) { return (uint32_t)(result >> 32); }
-static inline uint32_t refile_value(uint64_t result) { return (uint32_t)result; }
+static inline uint32_t refile_refusal(uint64_t result) {
+    return (result >> 63) ? (uint32_t)(result >> 32) & 0x7fffffffu : 0u;
+}
+static inline uint64_t refile_value(uint64_t result) {
+    return (result >> 63) ? result & 0xffffffffu : result;
+}
 
 /* Makes the buffer a fresh replica: no documents, update sequence 0.
  * Value 0. Refusals: 100. Whatever the buffer held is gone. */
@@ -139,24 +144,25 @@ uint64_t refile_missing(const uint8_t *replica, size_t replica_len, const uint8_
                         size_t out_len);
 
 /* The document with the lowest own sequence above `after`: writes its id to out and four numbers of
- * four bytes to answer (16 bytes): the id's length, that sequence, its leaf count, and 1 if its
+ * four bytes to answer: the id's length, that sequence, its leaf count, and 1 if its
  * winner is a deletion, else 0. Value: 1; or 0 for "no more", nothing written.
- * Refusals: 100, 106; 14. */
+ * Refusals: 100; 14 (either buffer; never with "no more"). */
 uint64_t refile_changes(const uint8_t *replica, size_t replica_len, uint32_t after, uint8_t *out,
                         size_t out_len, uint8_t *answer, size_t answer_len);
 
 /* Pulls every leaf of the source's documents after a sequence into the target, and writes three
- * numbers of four bytes to answer (12 bytes): offers that changed the target, offers that changed
+ * numbers of four bytes to answer: offers that changed the target, offers that changed
  * nothing, offers that were refused. Value 0. Refused above 0 means that something of the source is
- * not in the target. The source stays as it was. Refusals: 100 (either replica), 106. */
+ * not in the target. The source stays as it was. Refusals: 100 (either replica); 14, before any
+ * offer is made. */
 uint64_t refile_pull(uint8_t *target, size_t target_len, const uint8_t *source, size_t source_len,
                      uint32_t after, uint8_t *answer, size_t answer_len);
 
 /* Value: the update sequence. Refusals: 100. */
 uint64_t refile_update_sequence(const uint8_t *replica, size_t replica_len);
 
-/* Writes two numbers of four bytes to answer (8 bytes): documents and revisions held.
- * Value 0. Refusals: 100, 106. */
+/* Writes two numbers of four bytes to answer: documents and revisions held.
+ * Value 0. Refusals: 100; 14. */
 uint64_t refile_counts(const uint8_t *replica, size_t replica_len, uint8_t *answer,
                        size_t answer_len);
 

@@ -41,7 +41,7 @@ static uint32_t sure(uint64_t result) {
         fprintf(stderr, "two_offices: refused %u\n", (unsigned)refile_refusal(result));
         exit(2);
     }
-    return refile_value(result);
+    return (uint32_t)refile_value(result);
 }
 
 static uint32_t number_at(const uint8_t *bytes) {

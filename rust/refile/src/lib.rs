@@ -66,6 +66,6 @@ pub const ASKED_BYTES: usize = 20;
 /// Bytes in the largest image.
 pub const IMAGE_MOST: usize = 26_000;
 /// No report is longer.
-pub const REPORT_MOST: usize = 8_192;
+pub const REPORT_MOST: usize = 5_497;
 /// Bytes that a replica owns.
 pub const REPLICA_BYTES: usize = 26_000;

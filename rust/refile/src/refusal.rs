@@ -179,8 +179,8 @@ impl Refusal {
             25 => Refusal::ImageRow { place: value },
             26 => Refusal::ImageParent { place: value },
             100.. => unreachable!(
-                "house refusal {number}: the wrapper lends only whole replicas, known kinds, \
-                 hashes of 16 bytes and answer buffers of the documented size"
+                "house refusal {number}: the wrapper lends only whole replicas, known kinds and \
+                 hashes of 16 bytes"
             ),
             _ => unreachable!("refusal {number} is not in the interface's table"),
         };

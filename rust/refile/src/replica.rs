@@ -37,12 +37,14 @@ impl Clone for Replica {
 }
 
 /// The answer of an accepted call, or the refusal.
+///
+/// No answer that this crate asks for is over 32 bits, apart from a count of asked revisions that no
+/// memory holds.
 fn answer(result: u64) -> Result<u32, Refusal> {
-    let (refusal, value) = ((result >> 32) as u32, result as u32);
-    match refusal {
-        0 => Ok(value),
-        number => Err(Refusal::from_answer(number, value)),
+    if result >> 63 == 0 {
+        return Ok(u32::try_from(result).expect("an answer of over 32 bits"));
     }
+    Err(Refusal::from_answer((result >> 32) as u32 & 0x7fff_ffff, result as u32))
 }
 
 /// The answer of a call that can be refused only for reasons this crate rules out.

@@ -14,7 +14,7 @@ const BAD_LABEL: u32 = 102;
 const BAD_FLAG: u32 = 103;
 const BAD_HASH: u32 = 104;
 const BAD_NO_PARENT: u32 = 105;
-const BAD_ANSWER: u32 = 106;
+const SHORT_BUFFER: u32 = 14;
 
 const LIVE: u32 = 1;
 const DELETED: u32 = 2;
@@ -38,7 +38,11 @@ fn replica() -> Vec<u8> {
 type Answer = (u32, u32);
 
 fn answer(result: u64) -> Answer {
-    ((result >> 32) as u32, result as u32)
+    let value = result as u32;
+    if result >> 63 == 0 {
+        return (0, value);
+    }
+    ((result >> 32) as u32 & 0x7fff_ffff, value)
 }
 
 // The calls with slices for pointers and lengths. A buffer of another size than a replica's is
@@ -302,18 +306,30 @@ fn the_hash_of_a_path() {
 
 #[test]
 fn answer_buffers() {
-    for size in [0, 7, 9, 11, 13, 15, 17, 64] {
+    let source = replica();
+    for size in [0, 7] {
         let mut found = vec![0xee; size];
-        let mut out = [0xee; 2];
-        refused(BAD_ANSWER, |bytes| changes(bytes, &mut out, &mut found));
-        let source = replica();
-        refused(BAD_ANSWER, |bytes| pull(bytes, &source, &mut found));
-        refused(BAD_ANSWER, |bytes| counts(bytes, &mut found));
+        refused(SHORT_BUFFER, |bytes| counts(bytes, &mut found));
         assert_eq!(found, vec![0xee; size]);
-        assert_eq!(out, [0xee; 2]);
     }
-    // Of a refusal by the rules, and of "no more", the answer buffer stays as well.
+    for size in [0, 11] {
+        let mut found = vec![0xee; size];
+        refused(SHORT_BUFFER, |bytes| pull(bytes, &source, &mut found));
+        assert_eq!(found, vec![0xee; size]);
+    }
+    for size in [0, 15] {
+        let mut found = vec![0xee; size];
+        let mut out = [0xee; 3];
+        refused(SHORT_BUFFER, |bytes| changes(bytes, &mut out, &mut found));
+        assert_eq!((found, out), (vec![0xee; size], [0xee; 3]));
+    }
+    // The bytes after the answer stay.
+    let mut found = [0xee; 64];
+    assert_eq!(counts(&replica(), &mut found), (0, 0));
+    assert_eq!(found[..8], [0, 0, 0, 1, 0, 0, 0, 1]);
+    assert_eq!(found[8..], [0xee; 56]);
+    // Where the id does not fit, the answer buffer stays as well.
     let mut found = [0xee; 16];
-    refused(14, |bytes| changes(bytes, &mut [0; 2], &mut found));
+    refused(SHORT_BUFFER, |bytes| changes(bytes, &mut [0; 2], &mut found));
     assert_eq!(found, [0xee; 16]);
 }

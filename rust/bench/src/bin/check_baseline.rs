@@ -10,7 +10,7 @@ use refile_model::Replica;
 /// One byte more than the largest image; no more is read.
 const READ_MOST: usize = 26_001;
 /// No report is longer.
-const REPORT_MOST: usize = 8_192;
+const REPORT_MOST: usize = 5_497;
 
 fn main() -> ExitCode {
     match check() {
