@@ -7,7 +7,7 @@ use Rattle.rules.specs.declared.Revision.{Revision}
 use Rattle.rules.specs.Choice.{orElse}
 use Rattle.rules.specs.Replica.{Node}
 use Rattle.rules.specs.Write.{keeps, learn}
-use Rattle.rules.proofs.MapLaws.{none≢some, some-inj}
+use Rattle.rules.proofs.MapLaws.{none≢some}
 
 infixl 40 _⊕_
 -- a set of nodes
@@ -115,21 +115,8 @@ learn-at (some c) x S a g = record {
   ]);
 }
 
--- the set decides the node
-opt-ext : {A : Type 0} (x y : Option A) → ((a : A) → x ≡ some a → y ≡ some a) → ((a : A) → y ≡ some a → x ≡ some a) → x ≡ y
+-- two options with the same values
+pub opt-ext : {A : Type 0} (x y : Option A) → ((a : A) → x ≡ some a → y ≡ some a) → ((a : A) → y ≡ some a → x ≡ some a) → x ≡ y
 opt-ext none none f g = refl
 opt-ext none (some b) f g = g b refl
 opt-ext (some a) y f g = sym (f a refl)
-
-pub at-unique : (o u : Option Node) (S : Set) → At o S → At u S → o ≡ u
-at-unique none none S a b = refl
-at-unique none (some d) S a b = absurd (a (b .known .0) (b .known .1))
-at-unique (some c) none S a b = absurd (b (a .known .0) (a .known .1))
-at-unique (some c) (some d) S a b =
-    let p = opt-ext (c .parent) (d .parent)
-    (λ r e. let t = a .parent-of r e in b .parent-to (t .0) r (t .1) (t .2))
-    (λ r e. let t = b .parent-of r e in a .parent-to (t .0) r (t .1) (t .2)) in
-    let q = opt-ext (c .content) (d .content)
-    (λ r e. let t = a .content-of r e in b .content-to (t .0) r (a .leaf r e) (t .1) (t .2))
-    (λ r e. let t = b .content-of r e in a .content-to (t .0) r (b .leaf r e) (t .1) (t .2)) in
-    ap some (λ i. record { parent = p i; content = q i })
