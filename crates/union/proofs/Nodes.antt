@@ -14,10 +14,12 @@ infixl 40 _⊕_
 abbrev pub Set : Type 1
 Set = Node → Type 0
 
+-- with one more
 abbrev pub _⊕_ : Set → Node → Set
 _⊕_ S x = λ c. (c ≡ x) ⊎ S c
 
--- the node c is what the set S of nodes given for one revision comes to
+-- the node c is what the set S of nodes given for one revision comes to: every parent given is its
+-- parent, and it has a content exactly if none gives the revision without one, as an older one
 pub record AtSome (c : Node) (S : Set) : Type 0 where
   pub known : (d : Node) × S d
   pub parent-of : (p : Revision) → c .parent ≡ some p → (d : Node) × S d × (d .parent ≡ some p)
@@ -27,10 +29,12 @@ pub record AtSome (c : Node) (S : Set) : Type 0 where
   pub leaf : (b : Content) → c .content ≡ some b → (d : Node) → S d → d .content ≡ none → ⊥
   pub content-to : (d : Node) (b : Content) → ((x : Node) → S x → x .content ≡ none → ⊥) → S d → d .content ≡ some b → c .content ≡ some b
 
+-- what is found of a revision against the set: nothing, if the set is empty
 abbrev pub At : Option Node → Set → Type 0
 At none S = (c : Node) → S c → ⊥
 At (some c) S = AtSome c S
 
+-- no two of the set give different parents or different contents
 pub record Agree (S : Set) : Type 0 where
   pub parents : (c d : Node) (p q : Revision) → S c → S d → c .parent ≡ some p → d .parent ≡ some q → p ≡ q
   pub contents : (c d : Node) (p q : Content) → S c → S d → c .content ≡ some p → d .content ≡ some q → p ≡ q
