@@ -1,9 +1,9 @@
 -- How many: a sorted map whose keys stand in a list is no longer than the list; sums over a map. Assumes nothing.
-use mathlib.Core.Path.{_≡_, refl, sym, ap, ap₂, _∙_, subst}
+use mathlib.Core.Path.{_≡_, refl, sym, ap, _∙_, subst}
 use mathlib.Core.List.{List, [], _∷_}
-use mathlib.Core.Logic.{_⊎_, inl, inr}
+use mathlib.Core.Logic.{inl, inr}
 use mathlib.Core.Option.{Option, none, some}
-use Prim.Native.Nat.{ℕ, zero, suc, _+_, _≤_, _<_}
+use Prim.Native.Nat.{ℕ, suc, _+_, _≤_}
 use native.Mathlib.Omega.{arith}
 use lib.ListN.{length}
 use Rattle.rules.specs.declared.Order.{Order}
@@ -11,7 +11,7 @@ use Rattle.rules.specs.declared.Order.the-variants.{Less, Equal, Greater}
 use Rattle.rules.specs.declared.Revision.{Revision}
 use Rattle.rules.specs.Map.{Map, byOrder, find, alter, Below, Ascending}
 use Rattle.rules.specs.Order.{orderBytes, orderRev}
-use Rattle.rules.specs.Replica.{Id, Document, Tree, revisionsHeld}
+use Rattle.rules.specs.Replica.{Id, Document, revisionsHeld}
 use Rattle.rules.specs.Union.{In}
 use Rattle.rules.proofs.OrderLaws.{TotalOrder, less≢equal, equal≢greater, turn-less, bytesOrder, revOrder}
 use Rattle.rules.proofs.MapLaws.{none≢some, some-inj, find-lt, find-eq, find-gt}
@@ -71,6 +71,10 @@ module _ {K A : Type 0} (O : TotalOrder K) where
       go Equal p ih = inl (λ i. (O .same k (x .0) p i, some-inj (sym e ∙ find-eq O k x xs p) i))
       go Greater p ih = inr (ih (sym (find-gt O k x xs p) ∙ e))
 
+  find-nil : (k : K) → _≡_ {A = Option A} (find (O .cmp) k []) none
+  unfolding find
+  find-nil k = refl
+
   pub length-alter : (k : K) (f : Option A → A) (xs : Map K A) → find (O .cmp) k xs ≡ none → length (alter (O .cmp) k f xs) ≡ suc (length xs)
   unfolding alter
   length-alter k f [] e = refl
@@ -79,6 +83,17 @@ module _ {K A : Type 0} (O : TotalOrder K) where
       go : (o : Order) → O .cmp k (x .0) ≡ o → (find (O .cmp) k xs ≡ none → length (alter (O .cmp) k f xs) ≡ suc (length xs)) → length (alter (O .cmp) k f (x ∷ xs)) ≡ suc (length (x ∷ xs))
       go Less p ih = rw p refl
       go Equal p ih = absurd (none≢some (sym e ∙ find-eq O k x xs p))
+      go Greater p ih = rw p (ap suc (ih (sym (find-gt O k x xs p) ∙ e)))
+
+  pub length-alter-some : (k : K) (f : Option A → A) (xs : Map K A) (v : A) → find (O .cmp) k xs ≡ some v → length (alter (O .cmp) k f xs) ≡ length xs
+  unfolding alter
+  length-alter-some k f [] v e = absurd (none≢some (sym (find-nil k) ∙ e))
+  length-alter-some k f (x ∷ xs) v e = go (O .cmp k (x .0)) refl (λ q. length-alter-some k f xs v q)
+    where
+      go : (o : Order) → O .cmp k (x .0) ≡ o → (find (O .cmp) k xs ≡ some v → length (alter (O .cmp) k f xs) ≡ length xs)
+          → length (alter (O .cmp) k f (x ∷ xs)) ≡ length (x ∷ xs)
+      go Less p ih = absurd (none≢some (sym (find-lt O k x xs p) ∙ e))
+      go Equal p ih = rw p refl
       go Greater p ih = rw p (ap suc (ih (sym (find-gt O k x xs p) ∙ e)))
 
   pub pigeon : (xs : Map K A) → Ascending (O .cmp) xs → (L : List K) → ((x : K × A) → In x xs → In (x .0) L) → length xs ≤ length L

@@ -1,17 +1,61 @@
 -- Demand 3: what writes and pulls leave is the union of what was given and held, "stated from what is given or held, never by running writes or pulls". Assumes nothing.
-use mathlib.Core.Path.{_≡_, refl, sym, ap, _∙_}
-use mathlib.Core.List.{List, [], _∷_}
-use mathlib.Core.Logic.{_⊎_, inl, inr, _↔_}
-use Rattle.rules.specs.Edit.{Edit, edit}
-use Rattle.rules.specs.Read.{winner}
-use Rattle.rules.specs.Replica.{Id, Replica, fresh, documentOf, treeOf}
-use Rattle.rules.specs.Union.{In, given, IsUnion, SameButSeq, WellFormed, Compatible, Fits, writeAll, AllAccepted}
-use Rattle.rules.specs.Write.{Write, write}
-use Rattle.union.proofs.Trees.{Entry}
-use Rattle.union.proofs.Replicas.{well, holds-iff}
-use Rattle.union.proofs.Fold.{GivenBy, union, closed-given, holds-all, same-trees, same-winner, within-sub, compatible-within, fits-within}
+use mathlib.Core.Path.{_≡_}
+use mathlib.Core.Bool.{false}
+use mathlib.Core.List.{List, _++_}
+use mathlib.Core.Logic.{_↔_}
+use mathlib.Core.Option.{none}
+use lib.ListN.{length}
+use Rattle.rules.specs.declared.Outcome.the-variants.{Changed}
+use Rattle.rules.specs.declared.Seq.{Seq}
+use Rattle.rules.specs.declared.Written.the-variants.{Accepted}
+use Rattle.rules.specs.Choice.{firstThat}
+use Rattle.rules.specs.Edit.{Edit, asWrite, editRefusals, edit}
+use Rattle.rules.specs.Pull.{offers, pull}
+use Rattle.rules.specs.Read.{winner, documentsAfter}
+use Rattle.rules.specs.Replica.{Id, Document, Replica, fresh, documentOf, treeOf, IsReplica}
+use Rattle.rules.specs.Union.{In, given, held, IsUnion, SameButSeq, IsWrite, WellFormed, Compatible, Fits, Within, writeAll, AllAccepted, SeqSuffices, allFrom}
+use Rattle.rules.specs.Write.{Write, adds, writeRefusals, write}
+use Rattle.union.specs.Said.{IsEdit, Knows, Leaves, there, Agreed, total, leafCount}
+use Rattle.union.proofs.Orders as orders
 use Rattle.union.proofs.Frame as frame
-use Rattle.union.proofs.Sequence.{suffices-fresh}
+use Rattle.union.proofs.Keeps as keep
+use Rattle.union.proofs.Edits as edits
+use Rattle.union.proofs.WriteLeaves as one
+use Rattle.union.proofs.Pulls as pulls
+use Rattle.union.proofs.TwoWay as ways
+
+-- ---- "Replicas are only what this tool's calls make .. that each call leaves one is proved."
+
+pub fresh-is-replica : IsReplica fresh
+fresh-is-replica = keep.fresh-is-replica
+
+pub write-keeps : (r : Replica) (w : Write) → IsReplica r → IsWrite w → IsReplica (write r w .1)
+write-keeps = keep.write-keeps
+
+pub edit-keeps : (r : Replica) (e : Edit) → IsReplica r → IsEdit e → IsReplica (edit r e .1)
+edit-keeps = edits.edit-keeps
+
+pub pull-keeps : (s : Seq) (source target : Replica) → IsReplica source → IsReplica target → IsReplica (pull s source target .1)
+pull-keeps = pulls.pull-keeps
+
+-- ---- what one call leaves
+
+-- "what a write leaves is an exact union": said without running it, and it leaves one replica
+pub write-leaves : (r : Replica) (w : Write) → IsReplica r → firstThat (writeRefusals r w) ≡ none → Leaves r w (write r w .1)
+write-leaves = one.leaves
+
+pub leaves-one : (r : Replica) (w : Write) (a b : Replica) → IsReplica a → IsReplica b → Leaves r w a → Leaves r w b → a ≡ b
+leaves-one = one.leaves-one
+
+-- "Where nothing was added": the test that decides it says that all revisions and parents given are known
+pub adds-nothing : (r : Replica) (w : Write) → IsReplica r → firstThat (writeRefusals r w) ≡ none → (adds r w ≡ false) ↔ Knows r w
+adds-nothing = one.adds-nothing
+
+-- "An accepted edit leaves what the path write of the new revision and its parent, if any, would
+-- leave": and that write is accepted and changes
+pub edit-is-write : (r : Replica) (e : Edit) → IsReplica r → IsEdit e → firstThat (editRefusals r e) ≡ none
+    → write r (asWrite r e) ≡ (Accepted Changed, edit r e .1)
+edit-is-write = edits.edit-is-write
 
 -- ---- the frame law
 
@@ -30,9 +74,7 @@ edit-frame = frame.edit-other
 -- fresh and in the order given, and leave exactly the union. No sequence is asked for.
 pub union-of-writes : (ws : List Write) → ((w : Write) → In w ws → WellFormed w) → Compatible (given ws) → Fits (given ws)
     → AllAccepted ws fresh × IsUnion (writeAll ws fresh) (given ws)
-union-of-writes ws k g f =
-    let t = holds-all ws (λ w m. well w (k w m .form)) g f (suffices-fresh ws (λ w m. well w (k w m .form)) g f) in
-    (t .0, union (writeAll ws fresh) (GivenBy ws) (t .1) (closed-given ws))
+union-of-writes = orders.union-of-writes
 
 -- the same writes in any order and with any repeats leave the same trees, list for list, and so the
 -- same winners: "they differ in sequences only"
@@ -40,26 +82,36 @@ pub any-order : (ws vs : List Write) → ((w : Write) → In w ws ↔ In w vs)
     → ((w : Write) → In w ws → WellFormed w) → Compatible (given ws) → Fits (given ws)
     → SameButSeq (writeAll ws fresh) (writeAll vs fresh)
     × ((i : Id) → winner (treeOf (writeAll ws fresh) i) ≡ winner (treeOf (writeAll vs fresh) i))
-any-order ws vs h k g f = (same, same-winner (writeAll ws fresh) (writeAll vs fresh) same)
-  where
-    back : (i : Id) (x : Entry) → GivenBy vs i x → GivenBy ws i x
-    back i x m = (m .0, h (m .0) .1 (m .1), m .2, m .3)
+any-order = orders.any-order
 
-    there : (i : Id) (x : Entry) → GivenBy ws i x → GivenBy vs i x
-    there i x m = (m .0, h (m .0) .0 (m .1), m .2, m .3)
+-- ---- pulls both ways
 
-    kv : (w : Write) → In w vs → WellFormed w
-    kv w m = k w (h w .1 m)
+-- replicas that "hold only things those writes give", of writes that agree and fit, where "neither
+-- runs out of sequence": "pulling all of one into the other" and back leaves both with the union of
+-- what they held
+pub two-way : (ws : List Write) → Compatible (given ws) → Fits (given ws) → (a b : Replica) → IsReplica a → IsReplica b
+    → Within (held a) (given ws) → Within (held b) (given ws)
+    → SeqSuffices (offers allFrom a) b → SeqSuffices (offers allFrom (there a b)) a → Agreed a b
+two-way ws = ways.two-way (given ws)
 
-    gv : Compatible (given vs)
-    gv = compatible-within (given vs) (given ws) (within-sub (GivenBy vs) (GivenBy ws) back) g
+-- where writes made both from fresh, no sequence is asked for
+pub two-way-made : (us vs : List Write) → ((w : Write) → In w (us ++ vs) → WellFormed w) → Compatible (given (us ++ vs)) → Fits (given (us ++ vs))
+    → Agreed (writeAll us fresh) (writeAll vs fresh)
+two-way-made = ways.two-way-made
 
-    fv : Fits (given vs)
-    fv = fits-within (given vs) (given ws) (within-sub (GivenBy vs) (GivenBy ws) back) f
+-- ---- one pull
 
-    same : SameButSeq (writeAll ws fresh) (writeAll vs fresh)
-    same =
-        same-trees (writeAll ws fresh) (writeAll vs fresh) (GivenBy ws)
-        (holds-all ws (λ w m. well w (k w m .form)) g f (suffices-fresh ws (λ w m. well w (k w m .form)) g f) .1)
-        (holds-iff (writeAll vs fresh) (GivenBy vs) (GivenBy ws) back there
-        (holds-all vs (λ w m. well w (kv w m .form)) gv fv (suffices-fresh vs (λ w m. well w (kv w m .form)) gv fv) .1))
+-- "The answer has three counts .. They add up to the leaves of the source documents after that
+-- sequence."
+pub counts-add-up : (s : Seq) (source target : Replica) → total (pull s source target .0) ≡ leafCount (documentsAfter s (source .documents))
+counts-add-up = pulls.counts-leaves
+
+-- "each count is that of the offers one by one": together they count every offer
+pub counts-offers : (s : Seq) (source target : Replica) → total (pull s source target .0) ≡ length (offers s source)
+counts-offers = pulls.counts-total
+
+-- documents of the target that are not among the offered stay as they were
+pub pull-frame : (s : Seq) (source target : Replica) (j : Id)
+    → ((d : Id × Document) → In d (documentsAfter s (source .documents)) → j ≡ d .0 → ⊥)
+    → documentOf (pull s source target .1) j ≡ documentOf target j
+pull-frame = pulls.pull-other

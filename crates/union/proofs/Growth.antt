@@ -1,28 +1,28 @@
 -- How much a write adds: the revisions held afterwards are those held and the new ones. Assumes nothing.
-use mathlib.Core.Path.{_≡_, refl, sym, ap, ap₂, _∙_, subst}
-use mathlib.Core.Bool.{Bool, true, false}
+use mathlib.Core.Path.{_≡_, refl, ap, ap₂}
+use mathlib.Core.Bool.{false}
 use mathlib.Core.List.{List, [], _∷_}
-use mathlib.Core.Logic.{_⊎_, inl, inr}
+use mathlib.Core.Logic.{inl, inr}
 use mathlib.Core.Option.{Option, none, some}
-use Prim.Native.Nat.{ℕ, zero, suc, pred, _+_, _≤_, _<_}
+use Prim.Native.Nat.{ℕ, zero, suc, _+_, _≤_}
 use native.Mathlib.Omega.{arith}
-use lib.Dec.{ltb}
 use lib.ListN.{length}
 use borrow.Author.Tests.{ltb-false}
 use Rattle.rules.specs.declared.Content.{Content}
 use Rattle.rules.specs.declared.Order.the-variants.{Equal}
 use Rattle.rules.specs.declared.Revision.{Revision}
 use Rattle.rules.specs.Choice.{pick}
-use Rattle.rules.specs.Map.{Map, find, alter}
+use Rattle.rules.specs.Map.{Map, find}
 use Rattle.rules.specs.Order.{orderBytes, orderRev}
 use Rattle.rules.specs.Replica.{Id, Hash, revision, Node, Tree, Document, Replica, treeIn, documentOf, treeOf, revisionsHeld}
 use Rattle.rules.specs.Union.{In}
-use Rattle.rules.specs.Write.{Write, hashes, newestOf, along, gives, learn, addAll, next, added, isNone, isNew, countNew, lowNumber}
+use Rattle.rules.specs.Write.{Write, hashes, newestOf, along, gives, learn, addAll, added, isNone, isNew, countNew, lowNumber}
 use Rattle.rules.proofs.OrderLaws.{bytesOrder, revOrder}
 use Rattle.rules.proofs.MapLaws.{find-other}
 use Rattle.union.proofs.Trees.{Entry, add}
 use Rattle.union.proofs.Paths.{along-numbers}
-use Rattle.union.proofs.Count.{sum, on, sum-alter}
+use Rattle.union.proofs.Count.{on, sum, sum-alter}
+use Rattle.union.proofs.Cases.{now}
 
 one : Node → ℕ
 one c = 1
@@ -82,7 +82,7 @@ pub held-after : (r : Replica) (w : Write) → lowNumber w ≡ false
     → revisionsHeld (added r w .documents) ≡ revisionsHeld (r .documents) + countNew (treeOf r (w .id)) (gives w)
 unfolding added treeOf documentOf gives lowNumber documentSize
 held-after r w e =
-    let h = sum-alter bytesOrder documentSize (w .id) (λ d. record { seq = next (r .seq); tree = addAll (gives w) (treeOf r (w .id)) }) (r .documents) in
+    let h = sum-alter bytesOrder documentSize (w .id) (λ d. now r w) (r .documents) in
     let a = held-sum (r .documents) in
     let b = held-sum (added r w .documents) in
     let c = size-on (find orderBytes (w .id) (r .documents)) in

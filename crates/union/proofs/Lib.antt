@@ -1,13 +1,28 @@
--- Demand 3 and the laws it rests on.
+-- The theorems of demand 3, and the laws they rest on.
+pub mod Demand3
+pub mod Lists
 pub mod Nodes
 pub mod Trees
 pub mod Paths
+pub mod PathBytes
 pub mod Count
 pub mod Growth
-pub mod Replicas
-pub mod Lists
 pub mod Winners
-pub mod Fold
-pub mod Sequence
+pub mod Sets
+pub mod Refusals
+pub mod Cases
 pub mod Frame
-pub mod Demand3
+pub mod Replicas
+pub mod Fold
+pub mod Unions
+pub mod Sequence
+pub mod Orders
+pub mod Held
+pub mod Keeps
+pub mod Edits
+pub mod WriteLeaves
+pub mod Offers
+pub mod Pulls
+pub mod TwoWay
+pub mod Ready
+pub mod Instances

@@ -1,7 +1,9 @@
--- Membership in lists put together. Assumes nothing.
+-- Membership in lists put together, and a test over a list. Assumes nothing.
 use mathlib.Core.Path.{_≡_, refl, sym, ap, _∙_}
+use mathlib.Core.Bool.{Bool, true, false, true≢false}
 use mathlib.Core.List.{List, [], _∷_, _++_, map}
 use mathlib.Core.Logic.{_⊎_, inl, inr}
+use Rattle.rules.specs.Choice.{any}
 use Rattle.rules.specs.Union.{In}
 
 pub in-left : {A : Type 0} (x : A) (xs ys : List A) → In x xs → In x (xs ++ ys)
@@ -27,3 +29,20 @@ pub map-in : {A B : Type 0} (f : A → B) (y : B) (xs : List A) → In y (map f 
 map-in f y [] m = absurd m
 map-in f y (x ∷ xs) (inl q) = (x, inl refl, q)
 map-in f y (x ∷ xs) (inr m) = let t = map-in f y xs m in (t .0, inr (t .1), t .2)
+
+-- ---- a test over a list
+
+pub any-out : {A : Type 0} (p : A → Bool) (xs : List A) (x : A) → any p xs ≡ false → In x xs → p x ≡ false
+unfolding any
+any-out p [] x e m = absurd m
+any-out {A} p (y ∷ ys) x e m = go (p y) refl m (λ t. any-out p ys x t)
+  where
+    go : (b : Bool) → p y ≡ b → In x (y ∷ ys) → (any p ys ≡ false → In x ys → p x ≡ false) → p x ≡ false
+    go true q m ih = absurd (true≢false (sym (rw q refl) ∙ e))
+    go false q (inl s) ih = ap p s ∙ q
+    go false q (inr s) ih = ih (sym (rw q refl) ∙ e) s
+
+pub any-none : {A : Type 0} (p : A → Bool) (xs : List A) → ((x : A) → In x xs → p x ≡ false) → any p xs ≡ false
+unfolding any
+any-none p [] h = refl
+any-none p (y ∷ ys) h = rw (h y (inl refl)) (any-none p ys (λ x m. h x (inr m)))

@@ -7,17 +7,19 @@ use Rattle.rules.specs.declared.Revision.{Revision}
 use Rattle.rules.specs.Choice.{orElse}
 use Rattle.rules.specs.Replica.{Node}
 use Rattle.rules.specs.Write.{keeps, learn}
-use Rattle.rules.proofs.MapLaws.{none≢some, some-inj}
+use Rattle.rules.proofs.MapLaws.{none≢some}
 
 infixl 40 _⊕_
 -- a set of nodes
 abbrev pub Set : Type 1
 Set = Node → Type 0
 
+-- with one more
 abbrev pub _⊕_ : Set → Node → Set
 _⊕_ S x = λ c. (c ≡ x) ⊎ S c
 
--- the node c is what the set S of nodes given for one revision comes to
+-- the node c is what the set S of nodes given for one revision comes to: every parent given is its
+-- parent, and it has a content exactly if none gives the revision without one, as an older one
 pub record AtSome (c : Node) (S : Set) : Type 0 where
   pub known : (d : Node) × S d
   pub parent-of : (p : Revision) → c .parent ≡ some p → (d : Node) × S d × (d .parent ≡ some p)
@@ -27,10 +29,12 @@ pub record AtSome (c : Node) (S : Set) : Type 0 where
   pub leaf : (b : Content) → c .content ≡ some b → (d : Node) → S d → d .content ≡ none → ⊥
   pub content-to : (d : Node) (b : Content) → ((x : Node) → S x → x .content ≡ none → ⊥) → S d → d .content ≡ some b → c .content ≡ some b
 
+-- what is found of a revision against the set: nothing, if the set is empty
 abbrev pub At : Option Node → Set → Type 0
 At none S = (c : Node) → S c → ⊥
 At (some c) S = AtSome c S
 
+-- no two of the set give different parents or different contents
 pub record Agree (S : Set) : Type 0 where
   pub parents : (c d : Node) (p q : Revision) → S c → S d → c .parent ≡ some p → d .parent ≡ some q → p ≡ q
   pub contents : (c d : Node) (p q : Content) → S c → S d → c .content ≡ some p → d .content ≡ some q → p ≡ q
@@ -115,21 +119,8 @@ learn-at (some c) x S a g = record {
   ]);
 }
 
--- the set decides the node
-opt-ext : {A : Type 0} (x y : Option A) → ((a : A) → x ≡ some a → y ≡ some a) → ((a : A) → y ≡ some a → x ≡ some a) → x ≡ y
+-- two options with the same values
+pub opt-ext : {A : Type 0} (x y : Option A) → ((a : A) → x ≡ some a → y ≡ some a) → ((a : A) → y ≡ some a → x ≡ some a) → x ≡ y
 opt-ext none none f g = refl
 opt-ext none (some b) f g = g b refl
 opt-ext (some a) y f g = sym (f a refl)
-
-pub at-unique : (o u : Option Node) (S : Set) → At o S → At u S → o ≡ u
-at-unique none none S a b = refl
-at-unique none (some d) S a b = absurd (a (b .known .0) (b .known .1))
-at-unique (some c) none S a b = absurd (b (a .known .0) (a .known .1))
-at-unique (some c) (some d) S a b =
-    let p = opt-ext (c .parent) (d .parent)
-    (λ r e. let t = a .parent-of r e in b .parent-to (t .0) r (t .1) (t .2))
-    (λ r e. let t = b .parent-of r e in a .parent-to (t .0) r (t .1) (t .2)) in
-    let q = opt-ext (c .content) (d .content)
-    (λ r e. let t = a .content-of r e in b .content-to (t .0) r (a .leaf r e) (t .1) (t .2))
-    (λ r e. let t = b .content-of r e in a .content-to (t .0) r (b .leaf r e) (t .1) (t .2)) in
-    ap some (λ i. record { parent = p i; content = q i })

@@ -1,17 +1,17 @@
 -- What a path gives is closed under parents; the tests 4 and 5; a write that finds nothing to add. Assumes nothing.
-use mathlib.Core.Path.{_≡_, refl, sym, ap, ap₂, _∙_, subst}
-use mathlib.Core.Bool.{Bool, true, false, not, _||_, true≢false}
+use mathlib.Core.Path.{_≡_, refl, sym, ap, _∙_, subst}
+use mathlib.Core.Bool.{Bool, true, false, not, true≢false}
 use mathlib.Core.List.{List, [], _∷_}
 use mathlib.Core.Logic.{_⊎_, inl, inr}
 use mathlib.Core.Option.{Option, none, some}
-use Prim.Native.Nat.{ℕ, zero, suc, pred, _+_, _≤_, _<_}
+use Prim.Native.Nat.{ℕ, zero, suc, pred, _≤_}
 use native.Mathlib.Omega.{arith}
-use lib.Dec.{eqb, eqb-refl, T}
 use lib.ListN.{length}
+use borrow.Author.Tests.{eq-eqb}
 use Rattle.rules.specs.declared.Content.{Content}
 use Rattle.rules.specs.declared.Content.the-variants.{Live, Deleted}
 use Rattle.rules.specs.declared.Revision.{Revision}
-use Rattle.rules.specs.Choice.{maybe, any}
+use Rattle.rules.specs.Choice.{any}
 use Rattle.rules.specs.Map.{find}
 use Rattle.rules.specs.Order.{orderRev, sameRev}
 use Rattle.rules.specs.Replica.{Hash, revision, Node, Tree}
@@ -19,9 +19,12 @@ use Rattle.rules.specs.Union.{In}
 use Rattle.rules.specs.Write.{Write, hashes, newestOf, along, gives, lacksParent, isAddition, differ, otherParent, otherContent, agree}
 use Rattle.rules.proofs.OrderLaws.{revOrder}
 use Rattle.rules.proofs.MapLaws.{none≢some, some-inj}
-use Rattle.union.proofs.Nodes.{AtSome, At, by-option}
-use Rattle.union.proofs.Trees.{Entry, Given, _∪_, Rep, Agrees}
+use Rattle.union.proofs.Lists.{any-none, any-out}
+use Rattle.union.proofs.Nodes.{At, AtSome, by-option}
+use Rattle.union.proofs.Trees.{Agrees, Entry, Given, Rep, _∪_}
 
+-- a parent that is given is given as an older revision, with no content; what is given no content is
+-- given as a parent
 pub record Closed (G : Given) : Type 0 where
   pub down : (x : Entry) (p : Revision) → G x → x .1 .parent ≡ some p → (c : Node) × G (p, c) × (c .content ≡ none)
   pub up : (r : Revision) (c : Node) → G (r, c) → c .content ≡ none → (x : Entry) × G x × (x .1 .parent ≡ some r)
@@ -51,7 +54,7 @@ older-up (h ∷ hs) n r c (inr m) = inr (go (older-up hs (pred n) r c m))
   where
     go : (newestOf (pred n) hs ≡ some r) ⊎ ((x : Entry) × In x (along (pred n) hs none) × (x .1 .parent ≡ some r))
         → (x : Entry) × In x (along n (h ∷ hs) none) × (x .1 .parent ≡ some r)
-    go (inl e) = ((revision (n) (h), record { parent = newestOf (pred n) hs; content = none }), inl refl, e)
+    go (inl e) = ((revision n h, record { parent = newestOf (pred n) hs; content = none }), inl refl, e)
     go (inr t) = (t .0, inr (t .1), t .2)
 
 path-up : (hs : List Hash) (n : ℕ) (b : Content) (r : Revision) (c : Node) → In (r, c) (along n hs (some b)) → c .content ≡ none
@@ -63,7 +66,7 @@ path-up (h ∷ hs) n b r c (inr m) e = go (older-up hs (pred n) r c m)
   where
     go : (newestOf (pred n) hs ≡ some r) ⊎ ((x : Entry) × In x (along (pred n) hs none) × (x .1 .parent ≡ some r))
         → (x : Entry) × In x (along n (h ∷ hs) (some b)) × (x .1 .parent ≡ some r)
-    go (inl e) = ((revision (n) (h), record { parent = newestOf (pred n) hs; content = some b }), inl refl, e)
+    go (inl e) = ((revision n h, record { parent = newestOf (pred n) hs; content = some b }), inl refl, e)
     go (inr t) = (t .0, inr (t .1), t .2)
 
 pub write-closed : (w : Write) → Closed (λ x. In x (gives w))
@@ -73,33 +76,7 @@ write-closed w = record {
   up = λ r c m e. path-up (hashes w) (w .number .0) (w .content) r c m e;
 }
 
-pub closed-∪ : (G : Given) (es : List Entry) → Closed G → Closed (λ x. In x es) → Closed (G ∪ es)
-closed-∪ G es a b = record {
-  down = λ x p m e. elim m [
-    | inl s ↦ (let t = b .down x p s e in (t .0, inl (t .1), t .2))
-    | inr s ↦ (let t = a .down x p s e in (t .0, inr (t .1), t .2))
-  ];
-  up = λ r c m e. elim m [
-    | inl s ↦ (let t = b .up r c s e in (t .0, inl (t .1), t .2))
-    | inr s ↦ (let t = a .up r c s e in (t .0, inr (t .1), t .2))
-  ];
-}
-
--- ---- tests over a list
-pub any-out : {A : Type 0} (p : A → Bool) (xs : List A) (x : A) → any p xs ≡ false → In x xs → p x ≡ false
-unfolding any
-any-out p [] x e m = absurd m
-any-out {A} p (y ∷ ys) x e m = go (p y) refl m (λ t. any-out p ys x t)
-  where
-    go : (b : Bool) → p y ≡ b → In x (y ∷ ys) → (any p ys ≡ false → In x ys → p x ≡ false) → p x ≡ false
-    go true q m ih = absurd (true≢false (sym (rw q refl) ∙ e))
-    go false q (inl s) ih = ap p s ∙ q
-    go false q (inr s) ih = ih (sym (rw q refl) ∙ e) s
-
-pub any-none : {A : Type 0} (p : A → Bool) (xs : List A) → ((x : A) → In x xs → p x ≡ false) → any p xs ≡ false
-unfolding any
-any-none p [] h = refl
-any-none p (y ∷ ys) h = rw (h y (inl refl)) (any-none p ys (λ x m. h x (inr m)))
+-- ---- the tests 4 and 5
 
 differ-none : {A : Type 0} (same : A → A → Bool) → ((a : A) → same a a ≡ true) → (x y : Option A)
     → ((a b : A) → x ≡ some a → y ≡ some b → a ≡ b) → differ same x y ≡ false
@@ -111,12 +88,8 @@ sameRev-self : (a : Revision) → sameRev a a ≡ true
 unfolding sameRev
 sameRev-self a = rw (revOrder .self a) refl
 
-T-true : (b : Bool) → T b → b ≡ true
-T-true true t = refl
-T-true false t = absurd t
-
 agree-self : (a : Content) → agree a a ≡ true
-agree-self (Live n) = T-true (eqb n n) (eqb-refl n)
+agree-self (Live n) = eq-eqb n n refl
 agree-self Deleted = refl
 
 module _ (t : Tree) (G : Given) (es : List Entry) (a : Rep t G) (g : Agrees (G ∪ es)) where
@@ -142,18 +115,18 @@ module _ (t : Tree) (G : Given) (es : List Entry) (a : Rep t G) (g : Agrees (G �
           (λ p q u v. let t = at-some (x .0) c e .content-of p u in g (x .0) .contents (t .0) (x .1) p q (inr (t .1)) (inl m) (t .2) v))
 
   -- an entry that adds nothing: its revision is known, and its parent too if it gives one
-  held : (x : Entry) → isAddition t x ≡ false → (c : Node) × (find orderRev (x .0) t ≡ some c) × (lacksParent (x .1 .parent) (c .parent) ≡ false)
+  not-new : (x : Entry) → isAddition t x ≡ false → (c : Node) × (find orderRev (x .0) t ≡ some c) × (lacksParent (x .1 .parent) (c .parent) ≡ false)
   unfolding isAddition
-  held x e = go (find orderRev (x .0) t) refl
+  not-new x e = go (find orderRev (x .0) t) refl
     where
       go : (o : Option Node) → find orderRev (x .0) t ≡ o → (c : Node) × (find orderRev (x .0) t ≡ some c) × (lacksParent (x .1 .parent) (c .parent) ≡ false)
       go none q = absurd (true≢false (sym (rw q refl) ∙ e))
       go (some c) q = (c, q, sym (rw q refl) ∙ e)
 
   -- then what it gives as parent is given already
-  held-parent : (x : Entry) (p : Revision) → In x es → isAddition t x ≡ false → x .1 .parent ≡ some p
+  parent-known : (x : Entry) (p : Revision) → In x es → isAddition t x ≡ false → x .1 .parent ≡ some p
       → (c : Node) × (find orderRev (x .0) t ≡ some c) × (c .parent ≡ some p)
-  held-parent x p m e u = let t = held x e in go (t .0) (t .1) (t .2) (t .0 .parent) refl
+  parent-known x p m e u = let t = not-new x e in go (t .0) (t .1) (t .2) (t .0 .parent) refl
     where
       go : (c : Node) → find orderRev (x .0) t ≡ some c → lacksParent (x .1 .parent) (c .parent) ≡ false → (o : Option Revision) → c .parent ≡ o
           → (c : Node) × (find orderRev (x .0) t ≡ some c) × (c .parent ≡ some p)
@@ -173,14 +146,14 @@ module _ (t : Tree) (G : Given) (es : List Entry) (a : Rep t G) (g : Agrees (G �
         known = (b .known .0, inr (b .known .1));
         parent-of = λ p e. let t = b .parent-of p e in (t .0, inr (t .1), t .2);
         parent-to = λ d p m e. elim m [
-          | inl i ↦ (let t = held-parent (r, d) p i (quiet (r, d) i) e in subst (λ (z : Node). z .parent ≡ some p) (some-inj (sym (t .1) ∙ f)) (t .2))
+          | inl i ↦ (let t = parent-known (r, d) p i (quiet (r, d) i) e in subst (λ (z : Node). z .parent ≡ some p) (some-inj (sym (t .1) ∙ f)) (t .2))
           | inr s ↦ b .parent-to d p s e
         ];
         content-of = λ p e. let t = b .content-of p e in (t .0, inr (t .1), t .2);
         inner = λ e. let t = b .inner e in (t .0, inr (t .1), t .2);
         leaf = λ p e d m n. elim m [
           | inl i ↦ (let t = l .up r d i n in
-              let u = held-parent (t .0) r (t .1) (quiet (t .0) (t .1)) (t .2) in
+              let u = parent-known (t .0) r (t .1) (quiet (t .0) (t .1)) (t .2) in
               let v = at-some (t .0 .0) (u .0) (u .1) .parent-of r (u .2) in
               let y = k .down (t .0 .0, v .0) r (v .1) (v .2) in
               b .leaf p e (y .0) (y .1) (y .2))
@@ -197,7 +170,7 @@ module _ (t : Tree) (G : Given) (es : List Entry) (a : Rep t G) (g : Agrees (G �
 
       go : (r : Revision) (o : Option Node) → find orderRev r t ≡ o → At (find orderRev r t) (λ c. (G ∪ es) (r, c))
       go r none f = rw f (λ c m. elim m [
-        | inl i ↦ (let t = held (r, c) (quiet (r, c) i) in none≢some (sym f ∙ t .1))
+        | inl i ↦ (let t = not-new (r, c) (quiet (r, c) i) in none≢some (sym f ∙ t .1))
         | inr s ↦ (rw f at (a .at r)) c s
       ])
       go r (some c) f = rw f (some-at r c f)

@@ -1,32 +1,32 @@
 -- From fresh the sequence never runs out: each change adds a revision or a parent. Assumes nothing.
-use mathlib.Core.Path.{_≡_, refl, sym, ap, ap₂, _∙_, subst}
+use mathlib.Core.Path.{_≡_, refl, sym, ap, ap₂, _∙_}
 use mathlib.Core.Bool.{Bool, true, false, _||_, true≢false}
 use mathlib.Core.List.{List, [], _∷_}
-use mathlib.Core.Logic.{_⊎_, inl, inr}
+use mathlib.Core.Logic.{inl, inr}
 use mathlib.Core.Option.{Option, none, some}
-use Prim.Native.Nat.{ℕ, zero, suc, _+_, _≤_, _<_}
+use Prim.Native.Nat.{ℕ, suc, _+_, _≤_, _<_}
 use native.Mathlib.Omega.{arith}
 use lib.ListN.{length}
 use Rattle.rules.specs.declared.Order.{Order}
 use Rattle.rules.specs.declared.Order.the-variants.{Less, Equal, Greater}
-use Rattle.rules.specs.declared.Outcome.the-variants.{Changed, Unchanged}
 use Rattle.rules.specs.declared.Revision.{Revision}
-use Rattle.rules.specs.declared.Written.{Written}
-use Rattle.rules.specs.declared.Written.the-variants.{Accepted, Refused}
-use Rattle.rules.specs.Choice.{pick, orElse, maybe, any, firstThat}
+use Rattle.rules.specs.Choice.{orElse, maybe, any}
 use Rattle.rules.specs.Map.{Map, find}
 use Rattle.rules.specs.Order.{orderBytes, orderRev}
 use Rattle.rules.specs.Replica.{Id, Node, Tree, Document, Replica, fresh, treeIn, documentOf, treeOf, revisionsHeld}
 use Rattle.rules.specs.Room.{last}
-use Rattle.rules.specs.Union.{In, given, Compatible, Fits, SeqSuffices}
-use Rattle.rules.specs.Write.{Write, gives, learn, addAll, next, added, isNone, lacksParent, isAddition, adds, writeRefusals, settle, write}
+use Rattle.rules.specs.Union.{In, given, Compatible, Fits, writeAll, SeqSuffices}
+use Rattle.rules.specs.Write.{Write, gives, learn, addAll, added, lacksParent, isAddition, adds, write}
 use Rattle.rules.proofs.OrderLaws.{less≢equal, equal≢greater, bytesOrder, revOrder}
 use Rattle.rules.proofs.MapLaws.{find-same, find-other}
-use Rattle.union.proofs.Trees.{Entry, Agrees, add}
+use Rattle.union.proofs.Trees.{Agrees, Entry, add}
 use Rattle.union.proofs.Paths.{Closed}
-use Rattle.union.proofs.Count.{sum, on, sum-alter, sum-at}
-use Rattle.union.proofs.Replicas.{Givens, things, _⊎w_, Holds, Well, step, not-refused, revisions-fit}
-use Rattle.union.proofs.Fold.{Plus, None, agrees, within-sub, compatible-within, fits-within, one-within, rest-within, closed-w, holds-fresh, closed-none, only-given}
+use Rattle.union.proofs.Count.{on, sum, sum-alter, sum-at}
+use Rattle.union.proofs.Sets.{Givens, None, Plus, _⊎w_, agrees, closed-none, closed-w, compatible-within, fits-within, only-given, things, within-sub}
+use Rattle.union.proofs.Refusals.{Well}
+use Rattle.union.proofs.Cases.{now, write-by}
+use Rattle.union.proofs.Replicas.{Holds, revisions-fit, step}
+use Rattle.union.proofs.Fold.{holds-fresh, one-within, rest-within}
 
 -- a revision counts one, and its parent if known another
 abbrev parentWeight : Option Revision → ℕ
@@ -132,7 +132,7 @@ weight-on (some d) = refl
 added-weight : (r : Replica) (w : Write) → adds r w ≡ true → replicaWeight r < replicaWeight (added r w)
 unfolding replicaWeight added adds treeOf documentOf documentWeight
 added-weight r w e =
-    let h = sum-alter bytesOrder documentWeight (w .id) (λ d. record { seq = next (r .seq); tree = addAll (gives w) (treeOf r (w .id)) }) (r .documents) in
+    let h = sum-alter bytesOrder documentWeight (w .id) (λ d. now r w) (r .documents) in
     let a = weight-on (find orderBytes (w .id) (r .documents)) in
     let b = addition-weight (gives w) (treeOf r (w .id)) e in
     omega arith
@@ -151,17 +151,31 @@ unfolding sum documentWeight revisionsHeld
 documents-twice [] = omega arith
 documents-twice (d ∷ ds) = let a = tree-twice (d .1 .tree) in let b = documents-twice ds in omega arith
 
-write-weight : (r : Replica) (w : Write) → firstThat (writeRefusals r w) ≡ none → r .seq .0 ≤ replicaWeight r
-    → write r w .1 .seq .0 ≤ replicaWeight (write r w .1)
-unfolding write
-write-weight r w z h = rw z (go (adds r w) refl)
-  where
-    left : Bool → Written × Replica
-    left b = pick b (Accepted Changed, added r w) (Accepted Unchanged, r)
+-- refused or not
+write-weight : (r : Replica) (w : Write) → r .seq .0 ≤ replicaWeight r → write r w .1 .seq .0 ≤ replicaWeight (write r w .1)
+write-weight r w h =
+    write-by r w (λ s. s .seq .0 ≤ replicaWeight s) h (λ e n. let a = added-weight r w n in unfold added in omega arith)
 
-    go : (b : Bool) → adds r w ≡ b → left b .1 .seq .0 ≤ replicaWeight (left b .1)
-    go true e = let a = added-weight r w e in unfold added in omega arith
-    go false e = h
+writes-weight : (ws : List Write) (r : Replica) → r .seq .0 ≤ replicaWeight r → writeAll ws r .seq .0 ≤ replicaWeight (writeAll ws r)
+unfolding writeAll
+writes-weight [] r h = h
+writes-weight (w ∷ ws) r h = writes-weight ws (write r w .1) (write-weight r w h)
+
+-- what writes from fresh leave has a sequence of at most twice its revisions
+pub seq-twice : (ws : List Write) → writeAll ws fresh .seq .0 ≤ revisionsHeld (writeAll ws fresh .documents) + revisionsHeld (writeAll ws fresh .documents)
+unfolding replicaWeight sum
+seq-twice ws =
+    let a = writes-weight ws fresh (omega arith) in let b = documents-twice (writeAll ws fresh .documents) in omega arith
+
+-- a write raises the sequence by one at most
+write-seq : (r : Replica) (w : Write) → write r w .1 .seq .0 ≤ suc (r .seq .0)
+write-seq r w = write-by r w (λ s. s .seq .0 ≤ suc (r .seq .0)) (omega arith) (λ e n. unfold added in omega arith)
+
+pub suffices-room : (ws : List Write) (r : Replica) → r .seq .0 + length ws ≤ last → SeqSuffices ws r
+suffices-room [] r h = tt
+suffices-room (w ∷ ws) r h = (λ e. omega arith, suffices-room ws (write r w .1) (let t = write-seq r w in omega arith))
+
+-- ---- from fresh
 
 suffices-from : (ws : List Write) (r : Replica) (G : Givens) → Holds r G → ((i : Id) → Closed (G i))
     → ((w : Write) → In w ws → Well w) → Compatible (things (Plus G ws)) → Fits (things (Plus G ws)) → r .seq .0 ≤ replicaWeight r → SeqSuffices ws r
@@ -171,7 +185,7 @@ suffices-from (w ∷ ws) r G a c k g f h = (
   suffices-from ws (write r w .1) (G ⊎w w) (step r w G a g1 (k w (inl refl)) f1 c (λ e. small) .1) (closed-w G w c) (λ v m. k v (inr m))
       (compatible-within (things (Plus (G ⊎w w) ws)) (things (Plus G (w ∷ ws))) (rest-within G w ws) g)
       (fits-within (things (Plus (G ⊎w w) ws)) (things (Plus G (w ∷ ws))) (rest-within G w ws) f)
-      (write-weight r w (not-refused r w G a g1 (k w (inl refl)) f1 (λ e. small)) h),
+      (write-weight r w h),
 )
   where
     g1 : (i : Id) → Agrees ((G ⊎w w) i)

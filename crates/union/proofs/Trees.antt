@@ -12,8 +12,8 @@ use Rattle.rules.specs.Replica.{Node, Tree}
 use Rattle.rules.specs.Union.{In}
 use Rattle.rules.specs.Write.{learn, addAll}
 use Rattle.rules.proofs.OrderLaws.{less≢equal, equal≢greater, revOrder}
-use Rattle.rules.proofs.MapLaws.{find-same, find-other, ascending-alter, ext}
-use Rattle.union.proofs.Nodes.{Set, At, Agree, at-iff, learn-at, at-unique, _⊕_}
+use Rattle.rules.proofs.MapLaws.{find-same, find-other, ascending-alter}
+use Rattle.union.proofs.Nodes.{Agree, At, Set, _⊕_, at-iff, learn-at}
 
 -- a revision with what is given or known of it
 abbrev pub Entry : Type 0
@@ -107,11 +107,6 @@ rep-adds (e ∷ es) t G a g =
     from x (inl (inl q)) = inr (inl q)
     from x (inl (inr m)) = inl m
     from x (inr s) = inr (inr s)
-
--- two lists of t that come to one set are one list
-pub rep-unique : (x y : Tree) (G : Given) → Rep x G → Rep y G → x ≡ y
-rep-unique x y G a b =
-    ext revOrder x y (a .ascending) (b .ascending) (λ r. at-unique (find orderRev r x) (find orderRev r y) (λ c. G (r, c)) (a .at r) (b .at r))
 
 pub rep-empty : (G : Given) → ((x : Entry) → G x → ⊥) → Rep [] G
 unfolding find

@@ -1,6 +1,6 @@
 -- The leaves of a tree as a list, and its winner: the leaf that none is above. Assumes nothing.
 use mathlib.Core.Path.{_≡_, refl, sym, ap, _∙_, subst}
-use mathlib.Core.List.{List, [], _∷_, _++_}
+use mathlib.Core.List.{List, [], _∷_}
 use mathlib.Core.Logic.{_⊎_, inl, inr, _↔_}
 use mathlib.Core.Option.{Option, none, some}
 use Prim.Native.Nat.{ℕ}
@@ -14,11 +14,11 @@ use Rattle.rules.specs.Order.{orderBytes, orderRev, isLess}
 use Rattle.rules.specs.Read.{LeafOf, leafIn, leaves, rank, orderLeaf, higher, highest, winner}
 use Rattle.rules.specs.Replica.{Node, Tree, HasContent}
 use Rattle.rules.specs.Union.{In}
-use Rattle.rules.proofs.OrderLaws.{less≢equal, less≢greater, bytesOrder, revOrder, no-less-self, rev-path}
+use Rattle.rules.proofs.OrderLaws.{bytesOrder, revOrder, no-less-self, rev-path}
 use Rattle.rules.proofs.MapLaws.{none≢some, some-inj}
+use Rattle.union.proofs.Lists.{in-cases, in-left, in-right}
 use Rattle.union.proofs.Trees.{Entry}
-use Rattle.union.proofs.Count.{in-find, find-in}
-use Rattle.union.proofs.Lists.{in-left, in-right, in-cases}
+use Rattle.union.proofs.Count.{find-in, in-find}
 
 abbrev pub leafOf : Revision → Content → LeafOf
 leafOf v c = record { rev = v; content = c }

@@ -1,0 +1,2 @@
+-- What the theorems say, beyond the definitions of rules.
+pub mod Said

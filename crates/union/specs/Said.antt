@@ -1,0 +1,67 @@
+-- What the theorems say of an edit, of one write and of pulls, in the words of rules.
+use mathlib.Core.Path.{_≡_}
+use mathlib.Core.Bool.{true, false}
+use mathlib.Core.List.{List, [], _∷_}
+use mathlib.Core.Option.{some}
+use Prim.Native.Nat.{ℕ, _+_}
+use lib.ListN.{length}
+use Rattle.rules.specs.declared.Counts.{Counts}
+use Rattle.rules.specs.declared.Revision.{Revision}
+use Rattle.rules.specs.Bytes.{Bytes}
+use Rattle.rules.specs.Edit.{Edit}
+use Rattle.rules.specs.Pull.{offers, pull}
+use Rattle.rules.specs.Read.{leaves, winner}
+use Rattle.rules.specs.Replica.{Id, Document, Replica, documentOf, treeOf, IsContent}
+use Rattle.rules.specs.Room.{hashSize}
+use Rattle.rules.specs.Union.{given, held, both, IsUnion, SameButSeq, AllAccepted, allFrom}
+use Rattle.rules.specs.Write.{Write, next, adds}
+
+-- what a call of an edit can be given: bytes, a hash of sixteen and a label in range
+pub record IsEdit (e : Edit) : Type 0 where
+  pub id : Bytes (e .id)
+  pub hash : Bytes (e .hash)
+  pub size : length (e .hash) ≡ hashSize
+  pub content : IsContent (e .content)
+
+-- "Where nothing was added": each revision and each parent that the path gives is known
+pub record Knows (r : Replica) (w : Write) : Type 0 where
+  pub revisions : (v : Revision) → given (w ∷ []) .revision (w .id) v → held r .revision (w .id) v
+  pub parents : (v p : Revision) → given (w ∷ []) .parent (w .id) v p → held r .parent (w .id) v p
+
+-- what an accepted write w leaves of r, stated without running it
+pub record Leaves (r : Replica) (w : Write) (left : Replica) : Type 1 where
+  -- "An accepted write adds the revisions and parents that the path gives and the replica lacks."
+  pub union : IsUnion left (both (held r) (given (w ∷ [])))
+  -- "Where nothing was added .. the sequence stays."
+  pub unchanged : adds r w ≡ false → left ≡ r
+  -- "Otherwise .. the sequence rises by one, and the document takes the new value."
+  pub changed : adds r w ≡ true → left .seq ≡ next (r .seq)
+  pub own : adds r w ≡ true → (d : Document) → documentOf left (w .id) ≡ some d → d .seq ≡ next (r .seq)
+  -- "A write to one document changes no answer about another document"
+  pub others : (j : Id) → (j ≡ w .id → ⊥) → documentOf left j ≡ documentOf r j
+
+-- b after "pulling all of one into the other", from a, and a after pulling that back
+abbrev pub there : Replica → Replica → Replica
+there a b = pull allFrom a b .1
+
+abbrev pub back : Replica → Replica → Replica
+back a b = pull allFrom (there a b) a .1
+
+-- pulls both ways leave a and b with the union of what they held
+pub record Agreed (a b : Replica) : Type 1 where
+  pub accepted-there : AllAccepted (offers allFrom a) b
+  pub accepted-back : AllAccepted (offers allFrom (there a b)) a
+  pub union-there : IsUnion (there a b) (both (held a) (held b))
+  pub union-back : IsUnion (back a b) (both (held a) (held b))
+  -- "they differ in sequences only"
+  pub same : SameButSeq (there a b) (back a b)
+  pub winners : (i : Id) → winner (treeOf (there a b) i) ≡ winner (treeOf (back a b) i)
+
+-- "three counts: changed, unchanged, refused": together
+abbrev pub total : Counts → ℕ
+total c = c .changed + c .unchanged + c .refused
+
+-- "the leaves of the source documents"
+unfoldable pub leafCount : List (Id × Document) → ℕ
+leafCount [] = 0
+leafCount (d ∷ ds) = length (leaves (d .1 .tree)) + leafCount ds
