@@ -6,10 +6,17 @@ use native.Mathlib.Nat.{add-zero}
 use native.Mathlib.Numerals.{add-one}
 use native.Mathlib.Omega.{arith}
 use lib.ListN.{length, getD, set, take, drop, length-drop}
-use lib.Seq.{take-suc, getD-drop}
-use Rattle.rules.specs.Bytes.{be, value, valueFrom, part}
+use lib.Seq.{take-suc, take-add, drop-drop, getD-drop}
+use Rattle.rules.specs.Bytes.{be, value, valueFrom, part, Bytes}
+use Rattle.rules.proofs.ByteLaws.{bytes-append}
 use Rattle.octets.specs.Splice.{splice}
 use Rattle.octets.proofs.SpliceLaws.{stores}
+
+-- a part's bytes, one after the other
+pub bytes-more : (s : List ℕ) (at k : ℕ) → at + k < length s → Bytes (part at k s) → getD s (at + k) 0 < 256 → Bytes (part at (suc k) s)
+unfolding part
+bytes-more s at k h p b =
+    rw (take-suc (drop at s) k 0 (simp length-drop (omega arith)), getD-drop at s k 0) (bytes-append (take k (drop at s)) (getD s (at + k) 0 ∷ []) p (b, tt))
 
 valueFrom-more : (v : ℕ) (bs : List ℕ) (b : ℕ) → valueFrom v (bs ++ (b ∷ [])) ≡ valueFrom v bs * 256 + b
 unfolding valueFrom
@@ -54,6 +61,21 @@ value-eight s at h =
     let e3 : at + 4 + 3 ≡ at + 7 = omega arith in
     let g = rw (e1, e2, e3) at f in
     omega arith
+
+pub bytes-two : (s : List ℕ) (at : ℕ) → at + 2 ≤ length s → getD s at 0 < 256 → getD s (at + 1) 0 < 256 → Bytes (part at 2 s)
+unfolding part
+bytes-two s at h a b =
+    bytes-more s at 1 (omega arith) (bytes-more s at 0 (omega arith) tt (rw (add-zero at) a)) b
+
+pub bytes-four : (s : List ℕ) (at : ℕ) → at + 4 ≤ length s → getD s at 0 < 256 → getD s (at + 1) 0 < 256 → getD s (at + 2) 0 < 256 → getD s (at + 3) 0 < 256
+    → Bytes (part at 4 s)
+bytes-four s at h a b c d =
+    bytes-more s at 3 (omega arith) (bytes-more s at 2 (omega arith) (bytes-two s at (omega arith) a b) c) d
+
+-- two parts that follow each other are bytes
+pub bytes-both : (s : List ℕ) (at k : ℕ) → Bytes (part at k s) → Bytes (part (at + k) k s) → Bytes (part at (k + k) s)
+unfolding part
+bytes-both s at k a b = rw (take-add k k (drop at s), drop-drop k at s) (bytes-append (take k (drop at s)) (take k (drop (at + k) s)) a b)
 
 -- what the code stores, in the words of `be`
 pub two-bytes : (v : ℕ) → be 2 v ≡ v / 256 % 256 ∷ v % 256 ∷ []

@@ -3,8 +3,8 @@ use Prim.Native.Nat.{_%_, _/_}
 use native.Mathlib.Omega.{arith}
 use denote.Ref.{now}
 use borrow.Author.Needs.{needs}
-use Rattle.rules.specs.Bytes.{be}
 use Rattle.rules.proofs.ByteLaws.{length-be}
+use Rattle.rules.specs.Bytes.{be}
 use Rattle.octets.proofs.NumberLaws.{eight-bytes}
 use Rattle.octets.proofs.SpliceLaws.{splice-splice}
 use Rattle.octets.proofs.number.put8.Statement.{statement}
