@@ -95,10 +95,13 @@ add-two n = omega arith
 add-three : (n : ℕ) → n + 3 ≡ suc (suc (suc n))
 add-three n = omega arith
 
+pub four-at : (s : List ℕ) (at a b c d : ℕ) → at + 4 ≤ length s → set (set (set (set s at a) (at + 1) b) (at + 2) c) (at + 3) d ≡ splice s at (a ∷ b ∷ c ∷ d ∷ [])
+four-at s at a b c d h = rw (add-one, add-two, add-three) (stores (a ∷ b ∷ c ∷ d ∷ []) s at h)
+
 pub four-stores : (s : List ℕ) (at v : ℕ) → at + 4 ≤ length s → v < 4294967296
     → set (set (set (set s at (v / 16777216)) (at + 1) (v / 65536 % 256)) (at + 2) (v / 256 % 256)) (at + 3) (v % 256) ≡ splice s at (be 4 v)
 four-stores s at v h b =
-    rw (four-bytes v b, add-one, add-two, add-three) (stores (v / 16777216 ∷ v / 65536 % 256 ∷ v / 256 % 256 ∷ v % 256 ∷ []) s at h)
+    rw (four-bytes v b) (four-at s at (v / 16777216) (v / 65536 % 256) (v / 256 % 256) (v % 256) h)
 
 pub eight-bytes : (v : ℕ) → be 8 v ≡ be 4 (v / 4294967296) ++ be 4 (v % 4294967296)
 unfolding be

@@ -32,7 +32,7 @@ pub fn order_bytes(a: &[u8], b: &[u8]) -> Order
 }
 
 // Sixteen bytes of each, as two numbers of eight: that goes by words, and the order is the same.
-pub fn order_hash(a: &[u8], p: usize, b: &[u8], q: usize) -> Order
+fn order_parts(a: &[u8], p: usize, b: &[u8], q: usize) -> Order
     requires { ⌜ (p + 16 ≤ length (now a)) × (q + 16 ≤ length (now b)) ⌝ }
     ensures { λ r. ⌜ r ≡ orderBytes (part p 16 (now (a .entry))) (part q 16 (now (b .entry))) ⌝ }
 {
@@ -57,6 +57,21 @@ fn order_word(x: u64, y: u64) -> Order
         return Order::Greater;
     }
     Order::Equal
+}
+
+// Two hashes, "first byte first".
+pub fn order_hashes(g: [u8; 16], h: [u8; 16]) -> Order
+    ensures { λ r. ⌜ r ≡ orderBytes g h ⌝ }
+{
+    order_parts(&g, 0, &h, 0)
+}
+
+// A hash with the one that stands at `at`.
+pub fn order_hash_at(h: [u8; 16], s: &[u8], at: usize) -> Order
+    requires { ⌜ at + 16 ≤ length (now s) ⌝ }
+    ensures { λ r. ⌜ r ≡ orderBytes h (part at 16 (now (s .entry))) ⌝ }
+{
+    order_parts(&h, 0, s, at)
 }
 
 // Whether two runs are the same.

@@ -1,4 +1,4 @@
--- `order::order_hash` meets its contract. Assumes nothing.
+-- `order::order_parts` meets its contract. Assumes nothing.
 use mathlib.Core.Path.{_∙_, _≡_, ap, sym}
 use Prim.Native.Nat.{_+_}
 use native.Mathlib.Omega.{arith}
@@ -9,8 +9,8 @@ use Rattle.rules.specs.Bytes.{part, value}
 use Rattle.rules.specs.Order.{andThen, orderBytes, orderN}
 use Rattle.rules.specs.declared.Order.the-variants.{Equal, Greater, Less}
 use Rattle.octets.proofs.ByteOrderLaws.{equal-orderN, greater-orderN, order-halves, order-value}
-use Rattle.octets.proofs.order.order_hash.Statement.{statement}
-use Rattle.octets.proofs.order.order_hash.Tie as tie
+use Rattle.octets.proofs.order.order_parts.Statement.{statement}
+use Rattle.octets.proofs.order.order_parts.Tie as tie
 
 get8-requires : tie.Need-get8-requires
 get8-requires c κs = search needs
@@ -64,8 +64,8 @@ returns-3 c =
     let h = order-halves (a .a .now) (a .b .now) (a .p) (a .q) 8 (omega arith) (omega arith) (x .bytes) (y .bytes) in
     c .order-word .ensures ∙ rw (u .is, v .is) (w ∙ sym (h ∙ ap (λ o. andThen o (orderBytes (part (a .p + 8) 8 (a .a .now)) (part (a .q + 8) 8 (a .b .now)))) o))
 
-pub order-hash-spec : {M : Type 1} → statement M
-order-hash-spec =
+pub order-parts-spec : {M : Type 1} → statement M
+order-parts-spec =
     tie.close
     (tie.spec
     get8-requires
