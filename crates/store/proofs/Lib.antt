@@ -3,3 +3,4 @@ pub mod PieceLaws
 pub mod RoundLaws
 pub mod StoredLaws
 pub mod FitLaws
+pub mod EntryLaws
