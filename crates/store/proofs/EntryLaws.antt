@@ -15,27 +15,10 @@ use Rattle.rules.specs.Replica.{Id, Document, Replica, revisionsHeld}
 use Rattle.rules.specs.Room.{documentsMost, revisionsMost, idMost, last}
 use Rattle.store.specs.Storage.{contentsRoom, rowsRoom, rowsPlace, storeSize, filled, storedHead, storedEntries, storedRows, stored, replicaOf, All, FitsRow, FitsDocument, Storable, Laid}
 use Rattle.store.specs.Documents.{documentsOf, noDocument, documentAt, firstRow, entryPlace, HasDocument}
-use Rattle.store.proofs.PieceLaws.{drop-past, part-past, Sized}
+use Rattle.rules.proofs.ByteLaws.{part-past}
+use Rattle.store.proofs.PieceLaws.{part-piece}
 use Rattle.store.proofs.RoundLaws.{EntryFields, length-entry, entry-fields}
 use Rattle.store.proofs.StoredLaws.{length-map, entries-sized, length-head, size-laid, size-entries, documents-stored, revisions-stored, seq-stored}
-
--- within a list's first run
-part-in : (a b : List ℕ) (k n : ℕ) → k + n ≤ length a → part k n (a ++ b) ≡ part k n a
-unfolding part
-part-in a b k n h = rw (drop-append-le k a b (omega arith), take-append-le n (drop k a) b (simp length-drop (omega arith)))
-
--- within one of many pieces
-pub part-piece : (w : ℕ) (ps : List (List ℕ)) (T x : List ℕ) (i k n : ℕ) → All (Sized w) ps → i < length ps → k + n ≤ w
-    → part (w * i + k) n (join ps ++ T) ≡ part k n (getD ps i x)
-unfolding join
-part-piece w [] T x i k n h l m = absurd (not-suc-le-zero l)
-part-piece w (p ∷ ps) T x zero k n h l m =
-    let e : w * 0 + k ≡ k = omega arith in
-    rw (e, append-assoc p (join ps) T) (part-in p (join ps ++ T) k n (omega (arith, h .0)))
-part-piece w (p ∷ ps) T x (suc i) k n h l m =
-    let e : w * suc i + k ≡ w + (w * i + k) = omega arith in
-    rw (e, append-assoc p (join ps) T, part-past p (join ps ++ T) w (w * i + k) n (h .0))
-    (part-piece w ps T x i k n (h .1) (le-of-suc-le-suc l) m)
 
 pub all-at : {A : Type 0} (P : A → Type 0) (xs : List A) (i : ℕ) (x : A) → All P xs → i < length xs → P (getD xs i x)
 all-at P [] i x h l = absurd (not-suc-le-zero l)

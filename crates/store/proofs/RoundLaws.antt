@@ -15,7 +15,8 @@ use Rattle.rules.specs.Map.{Map}
 use Rattle.rules.specs.Replica.{Id, Node, Tree, Document, Replica, IsContent, revisionsHeld}
 use Rattle.rules.specs.Room.{documentsMost, revisionsMost, idMost, hashSize, last}
 use Rattle.store.specs.Storage.{contentsRoom, rowsRoom, rowsPlace, storeSize, filled, storedHead, storedEntries, rowsIn, storedRows, stored, rowsHeld, replicaOf, FitsParent, FitsContent, All, FitsRow, FitsDocument, Storable, Laid}
-use Rattle.store.proofs.PieceLaws.{length-be, value-be, drop-past, getD-past, part-past, part-front, part-all, number-front, Sized, length-join, pieces-join}
+use Rattle.rules.proofs.ByteLaws.{length-be, value-be, part-past, part-front, part-whole, getD-past}
+use Rattle.store.proofs.PieceLaws.{drop-past, number-front}
 
 -- ---- a row
 
@@ -77,7 +78,7 @@ row-fields v h =
     let past : (k : ℕ) → getD (N ++ (H ++ R)) (4 + (16 + k)) 0 ≡ getD R k 0 = λ k. getD-past N (H ++ R) 4 (16 + k) n ∙ getD-past H R 16 k (h .hash) in
     let later : (k m : ℕ) → part (4 + (16 + k)) m (N ++ (H ++ R)) ≡ part k m R = λ k m. part-past N (H ++ R) 4 (16 + k) m n ∙ part-past H R 16 k m (h .hash) in
     let e24 : part 24 16 (N ++ (H ++ R)) ≡ P = later 4 16 ∙ (at4 16 (P ++ L) _ _ ∙ part-front P L 16 p) in
-    let e40 : part 40 8 (N ++ (H ++ R)) ≡ L = later 20 8 ∙ (at20 8 P L _ _ p ∙ part-all L 8 (length-be 8 (labelOf (v .1 .content)))) in
+    let e40 : part 40 8 (N ++ (H ++ R)) ≡ L = later 20 8 ∙ (at20 8 P L _ _ p ∙ part-whole L 8 (length-be 8 (labelOf (v .1 .content)))) in
     record {
       rev = λ i. record { number = record { 0 = e0 i }; hash = e4 i };
       kind = past 0;
