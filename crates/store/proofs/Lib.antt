@@ -4,3 +4,5 @@ pub mod RoundLaws
 pub mod StoredLaws
 pub mod FitLaws
 pub mod EntryLaws
+pub mod TableLaws
+pub mod ChangeLaws
