@@ -4,22 +4,22 @@ use Prim.Native.Nat.{ℕ, zero, suc, _+_, _*_, _<_, _≤_, _-_}
 use native.Mathlib.Nat.{not-suc-le-zero, le-of-suc-le-suc}
 use native.Mathlib.Omega.{arith}
 use mathlib.Core.List.{List, [], _∷_, _++_, map, append-assoc}
-use lib.ListN.{length, take, drop, getD, replicate, length-append, length-replicate}
+use lib.ListN.{length, take, drop, getD, replicate, set, length-append, length-replicate, replicate-append-replicate}
 use Rattle.rules.specs.declared.Revision.{Revision}
 use Rattle.rules.specs.declared.Seq.{Seq}
 use Rattle.rules.specs.Bytes.{be, part, join}
 use Rattle.rules.specs.Image.{headSize, entrySize, rowSize, entryBytes, rowBytes}
 use Rattle.rules.specs.Map.{Map}
-use Rattle.rules.specs.Replica.{Id, Node, Tree, Document, Replica, revisionsHeld}
+use Rattle.rules.specs.Replica.{Id, Node, Tree, Document, Replica, fresh, revisionsHeld}
 use Rattle.rules.specs.Room.{documentsMost, revisionsMost, idMost, last}
 use Rattle.rules.proofs.ByteLaws.{length-be, Sized}
 use Rattle.octets.specs.Splice.{splice}
-use Rattle.octets.proofs.SpliceLaws.{replace}
-use Rattle.store.specs.Storage.{contentsRoom, rowsRoom, rowsPlace, filled, storedHead, storedEntries, rowsIn, storedRows, stored, replicaOf, All, FitsRow, FitsDocument, Storable, Laid}
+use Rattle.octets.proofs.SpliceLaws.{replace, splice-whole}
+use Rattle.store.specs.Storage.{contentsRoom, rowsRoom, rowsPlace, storeSize, filled, storedHead, storedEntries, rowsIn, storedRows, stored, replicaOf, All, FitsRow, FitsDocument, Storable, Laid}
 use Rattle.store.specs.Documents.{documentsOf, noDocument, documentAt, firstRow, entryPlace, rowPlace, HasDocument}
-use Rattle.store.specs.Change.{modify, insertAt, withDocument, setSeq, withSeq, setTree, withTree, Holds, CanAddDocument}
+use Rattle.store.specs.Change.{modify, insertAt, blank, withDocument, setSeq, withSeq, setTree, withTree, Holds, CanAddDocument}
 use Rattle.store.proofs.RoundLaws.{length-entry}
-use Rattle.store.proofs.StoredLaws.{length-map, entries-sized, length-head, stored-back, laid-stored}
+use Rattle.store.proofs.StoredLaws.{length-map, entries-sized, length-head, stored-back, laid-stored, fresh-fits, fresh-stored}
 use Rattle.store.proofs.EntryLaws.{all-at}
 use Rattle.store.proofs.TableLaws.{length-modify, length-insert, map-insert, table-splice, table-insert}
 
@@ -69,8 +69,14 @@ entry-seq x y h i q =
     let c = length-be 2 (length (x .1 .tree)) in
     let F : List ℕ = entryFront (x .0) in
     let C : List ℕ = be 2 (length (x .1 .tree)) in
-    rw (entry-split x, entry-split y, i, q, sym (append-assoc F C (be 4 (x .1 .seq .0) ++ be 4 0)),
-        replace (F ++ C) (be 4 (x .1 .seq .0)) (be 4 0) (be 4 (y .1 .seq .0)) 36 (simp (length-append, length-replicate, length-be) (omega arith)) (length-be 4 _ ∙ sym (length-be 4 _)))
+    rw (
+      entry-split x,
+      entry-split y,
+      i,
+      q,
+      sym (append-assoc F C (be 4 (x .1 .seq .0) ++ be 4 0)),
+      replace (F ++ C) (be 4 (x .1 .seq .0)) (be 4 0) (be 4 (y .1 .seq .0)) 36 (simp (length-append, length-replicate, length-be) (omega arith)) (length-be 4 _ ∙ sym (length-be 4 _)),
+    )
     (append-assoc F C (be 4 (y .1 .seq .0) ++ be 4 0))
 
 -- ---- lists of documents
@@ -158,11 +164,11 @@ module _ (r : Replica) (h : Storable r) where
         «seq-most» = m;
       }
 
-pub seq-holds : (s : List ℕ) (d p : ℕ) (q : Seq) → HasDocument s d → q .0 ≤ last → p ≡ entryPlace d
-    → Holds (withSeq d q (replicaOf s)) (splice (splice s (p + 36) (be 4 (q .0))) 8 (be 4 (q .0)))
-seq-holds s d p q h m e =
-    holds (withSeq d q (replicaOf s)) _ (seq-fits (replicaOf s) (h .laid .fits) d q (h .within) m)
-    (rw e (ap (λ (b : List ℕ). splice (splice b (entryPlace d + 36) (be 4 (q .0))) 8 (be 4 (q .0))) (h .laid .same) ∙ seq-bytes (replicaOf s) (h .laid .fits) d q (h .within)))
+pub seq-holds : (s s₁ s₂ : List ℕ) (d p : ℕ) (q : Seq) → HasDocument s d → q .0 ≤ last → p ≡ entryPlace d
+    → s₁ ≡ splice s (p + 36) (be 4 (q .0)) → s₂ ≡ splice s₁ 8 (be 4 (q .0)) → Holds (withSeq d q (replicaOf s)) s₂
+seq-holds s s₁ s₂ d p q h m e f g =
+    holds (withSeq d q (replicaOf s)) s₂ (seq-fits (replicaOf s) (h .laid .fits) d q (h .within) m)
+    (rw (g, f, e) (ap (λ (b : List ℕ). splice (splice b (entryPlace d + 36) (be 4 (q .0))) 8 (be 4 (q .0))) (h .laid .same) ∙ seq-bytes (replicaOf s) (h .laid .fits) d q (h .within)))
 
 -- ---- a new document
 
@@ -178,9 +184,6 @@ rows-insert zero x ds e = rw e
 rows-insert (suc at) x [] e = rw e
 rows-insert (suc at) x (y ∷ ds) e = rw (rows-insert at x ds e)
 
-abbrev blank : Id → Id × Document
-blank i = (i, record { seq = record { 0 = 0 }; tree = [] })
-
 module _ (r : Replica) (h : Storable r) (at : ℕ) (i : Id) (place : at ≤ length (r .documents)) (room : length (r .documents) < documentsMost) (short : length i ≤ idMost) where
   document-bytes : (p len : ℕ) → p ≡ entryPlace at → len ≡ (length (r .documents) - at) * entrySize
       → splice (splice (splice (stored r) (p + entrySize) (part p len (stored r))) p (entryBytes 0 (blank i))) 2 (be 2 (length (r .documents) + 1)) ≡ stored (withDocument at i r)
@@ -188,7 +191,7 @@ module _ (r : Replica) (h : Storable r) (at : ℕ) (i : Id) (place : at ≤ leng
   document-bytes p len e f =
       let docs = r .documents in
       let t = table-insert (storedHead (length docs) (revisionsHeld docs) (r .seq .0)) headSize entrySize contentsRoom (map (entryBytes 0) docs) (filled rowsRoom (join (map rowBytes (rowsIn docs)))) (length-head _ _ _) (entries-sized docs (h .documents))
-          (length docs) at p len (entryBytes 0 (blank i)) (sym (length-map (entryBytes 0) docs)) place (omega arith) (length-entry (blank i) short) (omega arith) f in
+      (length docs) at p len (entryBytes 0 (blank i)) (sym (length-map (entryBytes 0) docs)) place (omega arith) (length-entry (blank i) short) (omega arith) f in
       let n : length (insertAt at (blank i) docs) ≡ length docs + 1 = length-insert at (blank i) docs place ∙ omega arith in
       ap (λ (s : List ℕ). splice s 2 (be 2 (length docs + 1))) t
       ∙ (put-documents (length docs) (revisionsHeld docs) (r .seq .0) _ (length docs + 1)
@@ -205,11 +208,30 @@ module _ (r : Replica) (h : Storable r) (at : ℕ) (i : Id) (place : at ≤ leng
         «seq-most» = h .seq-most;
       }
 
-pub document-holds : (s : List ℕ) (at : ℕ) (i : Id) (n p len : ℕ) → CanAddDocument s at i → n ≡ length (documentsOf s) → p ≡ entryPlace at → len ≡ (n - at) * entrySize
-    → Holds (withDocument at i (replicaOf s)) (splice (splice (splice s (p + entrySize) (part p len s)) p (entryBytes 0 (blank i))) 2 (be 2 (n + 1)))
-document-holds s at i n p len h e f g =
+pub document-holds : (s s₁ s₂ s₃ : List ℕ) (at : ℕ) (i : Id) (n p len : ℕ) → CanAddDocument s at i → n ≡ length (documentsOf s) → p ≡ entryPlace at → len ≡ (n - at) * entrySize
+    → s₁ ≡ splice s (p + entrySize) (part p len s) → s₂ ≡ splice s₁ p (entryBytes 0 (blank i)) → s₃ ≡ splice s₂ 2 (be 2 (n + 1))
+    → Holds (withDocument at i (replicaOf s)) s₃
+document-holds s s₁ s₂ s₃ at i n p len h e f g a b c =
     let r = replicaOf s in
     let l = h .laid in
-    holds (withDocument at i r) _ (document-fits r (l .fits) at i (h .place) (h .room) (h .id))
-    (rw e (ap (λ (b : List ℕ). splice (splice (splice b (p + entrySize) (part p len b)) p (entryBytes 0 (blank i))) 2 (be 2 (length (documentsOf s) + 1))) (l .same)
+    holds (withDocument at i r) s₃ (document-fits r (l .fits) at i (h .place) (h .room) (h .id))
+    (rw (c, b, a, e) (ap (λ (x : List ℕ). splice (splice (splice x (p + entrySize) (part p len x)) p (entryBytes 0 (blank i))) 2 (be 2 (length (documentsOf s) + 1))) (l .same)
     ∙ document-bytes r (l .fits) at i (h .place) (h .room) (h .id) p len f (rw e at g)))
+
+-- ---- fresh
+
+pub fresh-holds : (s s₁ : List ℕ) → length s ≡ storeSize → s₁ ≡ splice s 0 (replicate storeSize 0) → Holds fresh s₁
+fresh-holds s s₁ h e =
+    holds fresh s₁ fresh-fits (e ∙ (splice-whole s (replicate storeSize 0) (length-replicate {A = ℕ} storeSize 0 ∙ sym h) ∙ sym fresh-stored))
+
+-- the bytes of a blank entry
+pub blank-bytes : (i t t₁ : List ℕ) → length i ≤ idMost → t ≡ set (replicate entrySize 0) 0 (length i) → t₁ ≡ splice t 1 i → t₁ ≡ entryBytes 0 (blank i)
+unfolding entryBytes be
+blank-bytes i t t₁ h e f =
+    let z : _≡_ {A = List ℕ} (replicate 43 0) (replicate (length i) 0 ++ replicate (43 - length i) 0) = let k : length i + (43 - length i) ≡ 43 = omega arith in rw (replicate-append-replicate {A = ℕ} (length i) (43 - length i) 0, k) in
+    let y : _≡_ {A = List ℕ} (replicate (43 - length i) 0) (replicate (idMost - length i) 0 ++ replicate 11 0) = let k : idMost - length i + 11 ≡ 43 - length i = omega arith in rw (replicate-append-replicate {A = ℕ} (idMost - length i) 11 0, k) in
+    f ∙ (ap (λ (x : List ℕ). splice x 1 i) (e ∙ ap (λ (x : List ℕ). length i ∷ x) z)
+    ∙ (replace (length i ∷ []) (replicate (length i) 0) (replicate (43 - length i) 0) i 1 refl (length-replicate {A = ℕ} (length i) 0) ∙ rw y))
+
+pub length-blank : (i t : List ℕ) → length i ≤ idMost → t ≡ entryBytes 0 (blank i) → length t ≡ entrySize
+length-blank i t h e = ap length e ∙ length-entry (blank i) h

@@ -66,14 +66,14 @@ pub record Standing (s : List ℕ) : Type 0 where
 pub standing : (s : List ℕ) → Laid s → Standing s
 unfolding headOf
 standing s h = record {
-    size = size-laid s h;
-    documents = ap (λ (x : List ℕ). headOf x .documents) (h .same) ∙ documents-stored (replicaOf s) (h .fits);
-    revisions = ap (λ (x : List ℕ). headOf x .revisions) (h .same) ∙ revisions-stored (replicaOf s) (h .fits);
-    seq = ap (λ (x : List ℕ). headOf x .seq) (h .same) ∙ seq-stored (replicaOf s) (h .fits);
-    «documents-most» = h .fits .documents-most;
-    «revisions-most» = h .fits .revisions-most;
-    «seq-most» = h .fits .seq-most;
-  }
+  size = size-laid s h;
+  documents = ap (λ (x : List ℕ). headOf x .documents) (h .same) ∙ documents-stored (replicaOf s) (h .fits);
+  revisions = ap (λ (x : List ℕ). headOf x .revisions) (h .same) ∙ revisions-stored (replicaOf s) (h .fits);
+  seq = ap (λ (x : List ℕ). headOf x .seq) (h .same) ∙ seq-stored (replicaOf s) (h .fits);
+  «documents-most» = h .fits .documents-most;
+  «revisions-most» = h .fits .revisions-most;
+  «seq-most» = h .fits .seq-most;
+}
 
 entry-stored : (r : Replica) (d k n : ℕ) → Storable r → d < length (r .documents) → k + n ≤ entrySize
     → part (entryPlace d + k) n (stored r) ≡ part k n (entryBytes 0 (documentAt (r .documents) d))
@@ -120,7 +120,7 @@ entry-held s d h =
     let m = first-most ds (suc d) in
     let e : EntryFields x (entryOf (entryBytes 0 x)) = entry-fields x (f .id) (omega (arith, st .revisions-most)) (f .seq) in
     let at : (k n : ℕ) → k + n ≤ entrySize → part (entryPlace d + k) n s ≡ part k n (entryBytes 0 x)
-        = λ k n q. ap (part (entryPlace d + k) n) (h .laid .same) ∙ entry-stored r d k n st (h .within) q in
+    = λ k n q. ap (part (entryPlace d + k) n) (h .laid .same) ∙ entry-stored r d k n st (h .within) q in
     record {
       fits = f;
       size = sym (getD-part s (entryPlace d) 1 (omega arith)) ∙ (ap (λ (l : List ℕ). getD l 0 0) (rw (add-zero (entryPlace d)) at (at 0 1 (omega arith))) ∙ (getD-part (entryBytes 0 x) 0 1 (omega arith) ∙ entry-size x));

@@ -79,9 +79,13 @@ module _ (H : List ℕ) (base w room : ℕ) (ps : List (List ℕ)) (R : List ℕ
   unfolding filled
   table-splice p i k y e l m =
       let n : length (join (modify i (λ (q : List ℕ). splice q k y) ps)) ≡ length (join ps) = length-spliced w ps i k y z m in
-      rw (e, splice-past H ((join ps ++ replicate (room - length (join ps)) 0) ++ R) y base (i * w + k) b, n,
-          append-assoc (join ps) (replicate (room - length (join ps)) 0) R,
-          append-assoc (join (modify i (λ (q : List ℕ). splice q k y) ps)) (replicate (room - length (join ps)) 0) R)
+      rw (
+        e,
+        splice-past H ((join ps ++ replicate (room - length (join ps)) 0) ++ R) y base (i * w + k) b,
+        n,
+        append-assoc (join ps) (replicate (room - length (join ps)) 0) R,
+        append-assoc (join (modify i (λ (q : List ℕ). splice q k y) ps)) (replicate (room - length (join ps)) 0) R,
+      )
       (ap (λ (l : List ℕ). H ++ l) (join-splice w ps i k y _ z l m))
 
   -- the pieces from i on move up, and x takes the gap

@@ -20,11 +20,14 @@ modify (suc i) f (x ∷ xs) = x ∷ modify i f xs
 unfoldable pub insertAt : {A : Type 0} → ℕ → A → List A → List A
 insertAt i x xs = take i xs ++ (x ∷ drop i xs)
 
--- with a document that has no revisions yet, at an index
+-- a document that has no revisions yet
+abbrev pub blank : Id → Id × Document
+blank i = (i, record { seq = record { 0 = 0 }; tree = [] })
+
 unfoldable pub withDocument : ℕ → Id → Replica → Replica
 withDocument at i r = record {
   seq = r .seq;
-  documents = insertAt at (i, record { seq = record { 0 = 0 }; tree = [] }) (r .documents);
+  documents = insertAt at (blank i) (r .documents);
 }
 
 abbrev pub setSeq : Seq → Id × Document → Id × Document

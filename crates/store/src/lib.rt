@@ -5,6 +5,7 @@
 use rules::DOCUMENTS;
 use rules::REVISIONS;
 
+pub mod change;
 pub mod read;
 
 // The sizes, and where the rows begin; all that depends on the room follows from it here.
