@@ -15,9 +15,11 @@ use Rattle.rules.specs.Room.{documentsMost, revisionsMost, idMost, last}
 use Rattle.rules.proofs.ByteLaws.{length-be, Sized}
 use Rattle.octets.specs.Splice.{splice}
 use Rattle.octets.proofs.SpliceLaws.{replace, splice-whole}
-use Rattle.store.specs.Storage.{contentsRoom, rowsRoom, rowsPlace, storeSize, filled, storedHead, storedEntries, rowsIn, storedRows, stored, replicaOf, All, FitsRow, FitsDocument, Storable, Laid}
+use Rattle.tree.specs.Rows.{FitsRow}
+use Rattle.store.specs.Storage.{contentsRoom, rowsRoom, rowsPlace, storeSize, filled, storedHead, storedEntries, rowsIn, storedRows, stored, replicaOf, All, FitsDocument, Storable, Laid}
 use Rattle.store.specs.Documents.{documentsOf, noDocument, documentAt, firstRow, entryPlace, rowPlace, HasDocument}
-use Rattle.store.specs.Change.{modify, insertAt, blank, withDocument, setSeq, withSeq, setTree, withTree, Holds, CanAddDocument}
+use Rattle.tree.specs.Table.{insertAt}
+use Rattle.store.specs.Change.{modify, blank, withDocument, setSeq, withSeq, setTree, withTree, Holds, CanAddDocument}
 use Rattle.store.proofs.RoundLaws.{length-entry}
 use Rattle.store.proofs.StoredLaws.{length-map, entries-sized, length-head, stored-back, laid-stored, fresh-fits, fresh-stored}
 use Rattle.store.proofs.EntryLaws.{all-at}

@@ -13,7 +13,8 @@ use Rattle.rules.specs.Image.{Entry, headSize, entrySize, entryBytes, headOf, e
 use Rattle.rules.specs.Map.{Map}
 use Rattle.rules.specs.Replica.{Id, Document, Replica, revisionsHeld}
 use Rattle.rules.specs.Room.{documentsMost, revisionsMost, idMost, last}
-use Rattle.store.specs.Storage.{contentsRoom, rowsRoom, rowsPlace, storeSize, filled, storedHead, storedEntries, storedRows, stored, replicaOf, All, FitsRow, FitsDocument, Storable, Laid}
+use Rattle.tree.specs.Rows.{FitsRow}
+use Rattle.store.specs.Storage.{contentsRoom, rowsRoom, rowsPlace, storeSize, filled, storedHead, storedEntries, storedRows, stored, replicaOf, All, FitsDocument, Storable, Laid}
 use Rattle.store.specs.Documents.{documentsOf, noDocument, documentAt, firstRow, entryPlace, HasDocument}
 use Rattle.rules.proofs.ByteLaws.{part-past}
 use Rattle.store.proofs.PieceLaws.{part-piece}

@@ -12,10 +12,12 @@ use Rattle.rules.specs.Image.{Row, Entry, Head, headSize, entrySize, rowSize, e
 use Rattle.rules.specs.Map.{Map}
 use Rattle.rules.specs.Replica.{Id, Node, Tree, Document, Replica, fresh, revisionsHeld}
 use Rattle.rules.specs.Room.{documentsMost, revisionsMost, idMost, hashSize, last}
-use Rattle.store.specs.Storage.{contentsRoom, rowsRoom, rowsPlace, storeSize, filled, storedHead, storedEntries, rowsIn, storedRows, stored, rowsHeld, replicaOf, All, FitsRow, FitsDocument, Storable, Laid}
+use Rattle.tree.specs.Rows.{FitsRow}
+use Rattle.store.specs.Storage.{contentsRoom, rowsRoom, rowsPlace, storeSize, filled, storedHead, storedEntries, rowsIn, storedRows, stored, rowsHeld, replicaOf, All, FitsDocument, Storable, Laid}
 use Rattle.rules.proofs.ByteLaws.{Sized, length-join, pieces-join}
 use Rattle.store.proofs.PieceLaws.{drop-past}
-use Rattle.store.proofs.RoundLaws.{length-row, row-back, length-entry, entry-fields}
+use Rattle.tree.proofs.RowLaws.{length-row, row-back}
+use Rattle.store.proofs.RoundLaws.{length-entry, entry-fields}
 
 -- ---- all rows
 

@@ -10,7 +10,8 @@ use Rattle.rules.proofs.ByteLaws.{Sized, length-join, join-append}
 use Rattle.octets.specs.Splice.{splice}
 use Rattle.octets.proofs.SpliceLaws.{splice-past, splice-in, length-splice, gap}
 use Rattle.store.specs.Storage.{filled}
-use Rattle.store.specs.Change.{modify, insertAt}
+use Rattle.tree.specs.Table.{insertAt}
+use Rattle.store.specs.Change.{modify}
 
 -- ---- lists
 

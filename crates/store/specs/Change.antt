@@ -8,6 +8,7 @@ use Rattle.rules.specs.declared.Seq.{Seq}
 use Rattle.rules.specs.Map.{Map}
 use Rattle.rules.specs.Replica.{Id, Tree, Document, Replica}
 use Rattle.rules.specs.Room.{documentsMost, idMost}
+use Rattle.tree.specs.Table.{insertAt}
 use Rattle.store.specs.Storage.{stored, replicaOf, Laid}
 use Rattle.store.specs.Documents.{documentsOf, HasDocument}
 
@@ -16,9 +17,6 @@ unfoldable pub modify : {A : Type 0} → ℕ → (A → A) → List A → List A
 modify i f [] = []
 modify zero f (x ∷ xs) = f x ∷ xs
 modify (suc i) f (x ∷ xs) = x ∷ modify i f xs
-
-unfoldable pub insertAt : {A : Type 0} → ℕ → A → List A → List A
-insertAt i x xs = take i xs ++ (x ∷ drop i xs)
 
 -- a document that has no revisions yet
 abbrev pub blank : Id → Id × Document
