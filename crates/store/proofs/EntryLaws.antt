@@ -26,7 +26,7 @@ all-at P [] i x h l = absurd (not-suc-le-zero l)
 all-at P (y ∷ ys) zero x h l = h .0
 all-at P (y ∷ ys) (suc i) x h l = all-at P ys i x (h .1) (le-of-suc-le-suc l)
 
-document-fits : (ds : Map Id Document) (d : ℕ) → All FitsDocument ds → d < length ds → FitsDocument (documentAt ds d)
+pub document-fits : (ds : Map Id Document) (d : ℕ) → All FitsDocument ds → d < length ds → FitsDocument (documentAt ds d)
 unfolding documentAt
 document-fits ds d h l = all-at FitsDocument ds d noDocument h l
 

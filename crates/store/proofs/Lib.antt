@@ -6,3 +6,5 @@ pub mod FitLaws
 pub mod EntryLaws
 pub mod TableLaws
 pub mod ChangeLaws
+pub mod PlaceLaws
+pub mod BodyLaws

@@ -77,7 +77,7 @@ module _ (d r q : ℕ) (T : List ℕ) where
 
 -- ---- reading all back
 
-tree-back : (t : Tree) → All FitsRow t → map nodeIn (map rowOf (map rowBytes t)) ≡ t
+pub tree-back : (t : Tree) → All FitsRow t → map nodeIn (map rowOf (map rowBytes t)) ≡ t
 tree-back [] h = refl
 tree-back (v ∷ t) h = ap₂ _∷_ (row-back v (h .0)) (tree-back t (h .1))
 

@@ -4,8 +4,13 @@ use mathlib.Core.List.{List, [], _∷_}
 use Prim.Native.Nat.{ℕ, zero, suc, _+_, _*_, _<_, _≤_}
 use lib.ListN.{length, getD, take}
 use Rattle.rules.specs.Image.{headSize, entrySize, rowSize}
-use Rattle.rules.specs.Map.{Map}
+use Rattle.rules.specs.Map.{Map, byOrder}
+use Rattle.rules.specs.Order.{orderBytes}
 use Rattle.rules.specs.Replica.{Id, Tree, Document, Replica, revisionsHeld}
+use Rattle.tree.specs.declared.table.Found.{Found}
+use Rattle.tree.specs.declared.table.Found.the-variants.{At, Gap}
+use Rattle.tree.specs.Table.{treeAt}
+use Rattle.store.specs.declared.read.Body.{Body}
 use Rattle.store.specs.Storage.{rowsPlace, replicaOf, Laid}
 
 abbrev pub documentsOf : List ℕ → Map Id Document
@@ -29,7 +34,27 @@ entryPlace d = headSize + entrySize * d
 abbrev pub rowPlace : ℕ → ℕ
 rowPlace k = rowsPlace + rowSize * k
 
+-- ---- searching
+
+-- the first id that is not below i, counted from k: it, or the gap before it
+unfoldable pub placeOfId : ℕ → Id → Map Id Document → Found
+placeOfId k i [] = Gap k
+placeOfId k i (d ∷ ds) = byOrder (orderBytes i (d .0)) (Gap k) (At k) (placeOfId (suc k) i ds)
+
+-- ---- contracts
+
 -- s is laid out and has a document d
 pub record HasDocument (s : List ℕ) (d : ℕ) : Type 0 where
   pub laid : Laid s
   pub within : d < length (documentsOf s)
+
+-- where document d's rows stand, and how many they are
+pub record IsBody (s : List ℕ) (d : ℕ) (b : Body) : Type 0 where
+  pub document : HasDocument s d
+  pub base : b .base ≡ rowPlace (firstRow (documentsOf s) d)
+  pub rows : b .rows ≡ length (documentAt (documentsOf s) d .1 .tree)
+
+-- rows that are the tree t
+pub record Shows (s : List ℕ) (b : Body) (t : Tree) : Type 0 where
+  pub within : b .base + b .rows * rowSize ≤ length s
+  pub tree : treeAt (b .base) (b .rows) s ≡ t

@@ -1,16 +1,26 @@
 // What a replica in a buffer holds.
 use crate::ENTRY;
 use crate::HEAD;
+use crate::ROWS;
 use octets::number::get2;
 use octets::number::get4;
+use octets::order::order_bytes;
+use rules::Order;
 use rules::Seq;
+use tree::table::Found;
 ghost use mathlib.Core.Path.{_≡_};
 ghost use Prim.Native.Nat.{ℕ, _+_, _*_, _<_, _≤_};
 ghost use lib.ListN.{length};
-ghost use Rattle.rules.specs.Replica.{revisionsHeld};
+ghost use Rattle.rules.specs.Replica.{revisionsHeld, treeOf};
 ghost use Rattle.rules.specs.Room.{documentsMost};
 ghost use Rattle.store.specs.Storage.{replicaOf, Laid};
-ghost use Rattle.store.specs.Documents.{documentsOf, documentAt, firstRow, entryPlace, HasDocument};
+ghost use Rattle.store.specs.Documents.{documentsOf, documentAt, firstRow, entryPlace, placeOfId, HasDocument, IsBody, Shows};
+
+// The rows of one document: where they begin, and how many they are.
+pub struct Body {
+    pub base: usize,
+    pub rows: usize,
+}
 
 pub fn documents_held(b: &[u8]) -> usize
     requires { ⌜ Laid (now b) ⌝ }
@@ -80,4 +90,54 @@ pub fn id_of(b: &[u8], d: usize) -> &[u8]
     let a = p + 1;
     let e = a + (b[p] as usize);
     &b[a..e]
+}
+
+// Where the document `id` is, or the gap where it would go.
+pub fn find_document(b: &[u8], id: &[u8]) -> Found
+    requires { ⌜ Laid (now b) ⌝ }
+    ensures { λ r. ⌜ r ≡ placeOfId 0 (now (id .entry)) (documentsOf (now (b .entry))) ⌝ }
+{
+    let n = documents_held(b);
+    let mut i = 0;
+    while i < n {
+        let d = i;
+        i += 1;
+        match order_bytes(id, id_of(b, d)) {
+            Order::Less => {
+                return Found::Gap(d);
+            }
+            Order::Equal => {
+                return Found::At(d);
+            }
+            Order::Greater => {}
+        }
+    }
+    Found::Gap(n)
+}
+
+// The rows of document d.
+pub fn body_of(b: &[u8], d: usize) -> Body
+    requires { ⌜ HasDocument (now b) d ⌝ }
+    ensures { λ r. ⌜ IsBody (now (b .entry)) d r ⌝ }
+{
+    let first = first_row(b, d);
+    let rows = row_count(b, d);
+    Body {
+        base: ROWS + first * 48,
+        rows,
+    }
+}
+
+// The rows of the document `id`, none where it is absent.
+pub fn tree_of(b: &[u8], id: &[u8]) -> Body
+    requires { ⌜ Laid (now b) ⌝ }
+    ensures { λ r. ⌜ Shows (now (b .entry)) r (treeOf (replicaOf (now (b .entry))) (now (id .entry))) ⌝ }
+{
+    match find_document(b, id) {
+        Found::At(d) => body_of(b, d),
+        Found::Gap(_) => Body {
+            base: ROWS,
+            rows: 0,
+        },
+    }
 }
