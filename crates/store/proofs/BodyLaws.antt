@@ -43,9 +43,9 @@ tree-middle : (a t z : List (Revision × Node)) (T : List ℕ) (n : ℕ) → All
 tree-middle a t z T n h k e =
     let la : length (join (map rowBytes a)) ≡ n = length-join rowSize (map rowBytes a) (rows-sized a h) ∙ (ap (λ (m : ℕ). m * rowSize) (length-map rowBytes a) ∙ sym e) in
     let s : join (map rowBytes (a ++ (t ++ z))) ++ T ≡ join (map rowBytes a) ++ (join (map rowBytes t) ++ (join (map rowBytes z) ++ T))
-        = rw (map-append rowBytes a (t ++ z), map-append rowBytes t z, join-append (map rowBytes a) (map rowBytes t ++ map rowBytes z), join-append (map rowBytes t) (map rowBytes z)) (simp append-assoc) in
+    = rw (map-append rowBytes a (t ++ z), map-append rowBytes t z, join-append (map rowBytes a) (map rowBytes t ++ map rowBytes z), join-append (map rowBytes t) (map rowBytes z)) (simp append-assoc) in
     let p : pieces (length t) rowSize (join (map rowBytes t) ++ (join (map rowBytes z) ++ T)) ≡ map rowBytes t
-        = rw (sym (length-map rowBytes t)) (pieces-join rowSize (map rowBytes t) (join (map rowBytes z) ++ T) (rows-sized t k)) in
+    = rw (sym (length-map rowBytes t)) (pieces-join rowSize (map rowBytes t) (join (map rowBytes z) ++ T) (rows-sized t k)) in
     rw (s, drop-at (join (map rowBytes a)) (join (map rowBytes t) ++ (join (map rowBytes z) ++ T)) n la, p) (tree-back t k)
 
 body-stored : (r : Replica) (d : ℕ) → Storable r → d < length (r .documents)
@@ -59,7 +59,7 @@ body-stored r d h l =
     let fd : FitsDocument (documentAt ds d) = document-fits ds d (h .documents) l in
     let n : length a ≡ revisionsHeld (take d ds) = length-rowsIn (take d ds) in
     let p : drop (rowSize * revisionsHeld (take d ds)) (drop rowsPlace (stored r)) ≡ drop (rowSize * revisionsHeld (take d ds)) (join (map rowBytes (a ++ (t ++ z))) ++ replicate (rowsRoom - length (join (map rowBytes (rowsIn ds)))) 0)
-        = ap (drop (rowSize * revisionsHeld (take d ds))) (past-contents r h ∙ ap (λ (x : List (Revision × Node)). join (map rowBytes x) ++ replicate (rowsRoom - length (join (map rowBytes (rowsIn ds)))) 0) (rows-split ds d l)) in
+    = ap (drop (rowSize * revisionsHeld (take d ds))) (past-contents r h ∙ ap (λ (x : List (Revision × Node)). join (map rowBytes x) ++ replicate (rowsRoom - length (join (map rowBytes (rowsIn ds)))) 0) (rows-split ds d l)) in
     rw (sym (drop-drop (rowSize * revisionsHeld (take d ds)) rowsPlace (stored r)), p)
     (tree-middle a t z _ (rowSize * revisionsHeld (take d ds)) (fit-rows (take d ds) (all-take FitsDocument d ds (h .documents))) (fd .rows) (omega arith))
 

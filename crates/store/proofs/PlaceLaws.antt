@@ -39,26 +39,38 @@ Says k i ds (Gap d) = (m : ℕ) × (d ≡ k + m) × IsGap m i ds
 
 later : (k : ℕ) (i : Id) (x : Id × Document) (ds : Map Id Document) (p : Found) → orderBytes i (x .0) ≡ Greater → Says (suc k) i ds p → Says k i (x ∷ ds) p
 unfolding find alter modify insertAt documentAt
-later k i x ds (At d) o h = (suc (h .0), let e = h .1 in omega arith, record {
+later k i x ds (At d) o h = (
+  suc (h .0),
+  let e = h .1 in omega arith,
+  record {
     within = let w = h .2 .within in omega arith;
     is = h .2 .is;
     found = rw o (h .2 .found);
     altered = λ f. rw o (ap (λ (l : Map Id Document). x ∷ l) (h .2 .altered f));
-  })
-later k i x ds (Gap d) o h = (suc (h .0), let e = h .1 in omega arith, record {
+  },
+)
+later k i x ds (Gap d) o h = (
+  suc (h .0),
+  let e = h .1 in omega arith,
+  record {
     within = let w = h .2 .within in omega arith;
     found = rw o (h .2 .found);
     altered = λ f. rw o (ap (λ (l : Map Id Document). x ∷ l) (h .2 .altered f));
-  })
+  },
+)
 
 here : (k : ℕ) (i : Id) (x : Id × Document) (ds : Map Id Document) → orderBytes i (x .0) ≡ Equal → Says k i (x ∷ ds) (At k)
 unfolding find alter modify documentAt
-here k i x ds o = (0, omega arith, record {
+here k i x ds o = (
+  0,
+  omega arith,
+  record {
     within = omega arith;
     is = sym (orderBytes-same i (x .0) o);
     found = rw o refl;
     altered = λ f. let e = orderBytes-same i (x .0) o in rw o (ap (λ (j : Id). (j, f (some (x .1))) ∷ ds) e);
-  })
+  },
+)
 
 before : (k : ℕ) (i : Id) (x : Id × Document) (ds : Map Id Document) → orderBytes i (x .0) ≡ Less → Says k i (x ∷ ds) (Gap k)
 unfolding find alter insertAt

@@ -34,7 +34,7 @@ same-length c = search needs
 
 -- src/change.rt:31:1
 returns : tie.Need-returns
-returns c = seq-holds _ _ _ _ _ _ ((c .before .before .before .before .before .before .before .before .before .before) .pre) (omega (arith, (c .before .before .before .before .before .before .before .before .before .before) .good)) ((c .before .before .before .before .before .before .before .entry-place) .ensures) ((c .before .before .before .before .before .before .put4) .ensures) ((c .before .before .put42) .ensures)
+returns c = seq-holds _ _ _ _ _ _ ((c .before .before .before .before .before .before .before .before .before .before) .pre) (omega (arith, (c .before .before .before .before .before .before .before .before .before .before) .good)) ((c .before .before .before .before .before .before .before .entry-place) .ensures) ((c .before .before .before .before .before .before .put4) .ensures .is) ((c .before .before .put42) .ensures .is)
 
 pub set-sequences-spec : {M : Type 1} → statement M
 set-sequences-spec =

@@ -50,7 +50,7 @@ enum-told c = search needs
 
 -- src/read.rt:107:17
 returns : tie.Need-returns Inv-loop μ-loop
-returns c = 
+returns c =
     let o : orderBytes ((c .before .before .before .before .before .before .before .before .before) .args .id .now) (documentAt (documentsOf ((c .before .before .before .before .before .before .before .before .before) .args .b .now)) ((c .before .before .before .before .before .loop) .i) .0) ≡ Less = rw (sym ((c .before .before .before .id-of) .ensures)) (sym ((c .before .before .order-bytes) .ensures) ∙ (c .enum-told) .given .1) in
     sym ((c .before .before .before .before .before .loop) .inv .1 ∙ search-less _ _ ((c .before .before .before .before .before .loop) .i) (omega (arith, (c .before .before .before .before .before .before .documents-held) .ensures)) o)
 
@@ -60,7 +60,7 @@ enum-told-2 c = search needs
 
 -- src/read.rt:110:17
 returns-2 : tie.Need-returns-2 Inv-loop μ-loop
-returns-2 c = 
+returns-2 c =
     let o : orderBytes ((c .before .before .before .before .before .before .before .before .before) .args .id .now) (documentAt (documentsOf ((c .before .before .before .before .before .before .before .before .before) .args .b .now)) ((c .before .before .before .before .before .loop) .i) .0) ≡ Equal = rw (sym ((c .before .before .before .id-of) .ensures)) (sym ((c .before .before .order-bytes) .ensures) ∙ (c .enum-told2) .given .1) in
     sym ((c .before .before .before .before .before .loop) .inv .1 ∙ search-equal _ _ ((c .before .before .before .before .before .loop) .i) (omega (arith, (c .before .before .before .before .before .before .documents-held) .ensures)) o)
 
@@ -73,13 +73,13 @@ loop-less c = search needs
 
 -- src/read.rt:102:5
 loop-again : tie.Need-loop-again Inv-loop μ-loop
-loop-again c = 
+loop-again c =
     let o : orderBytes ((c .before .before .before .before .before .before .before .before .before) .args .id .now) (documentAt (documentsOf ((c .before .before .before .before .before .before .before .before .before) .args .b .now)) ((c .before .before .before .before .before .loop) .i) .0) ≡ Greater = rw (sym ((c .before .before .before .id-of) .ensures)) (sym ((c .before .before .order-bytes) .ensures) ∙ (c .enum-told3) .given .1) in
     (omega arith, (c .before .before .before .before .before .loop) .inv .1 ∙ search-next _ _ ((c .before .before .before .before .before .loop) .i) (omega (arith, (c .before .before .before .before .before .before .documents-held) .ensures)) o)
 
 -- src/read.rt:96:1
 returns-3 : tie.Need-returns-3 Inv-loop μ-loop
-returns-3 c = 
+returns-3 c =
     let e : (c .before .loop) .i ≡ (c .before .before .documents-held) .result = omega arith in
     sym ((c .before .loop) .inv .1 ∙ (search-end _ _ ((c .before .loop) .i) (omega (arith, (c .before .before .documents-held) .ensures)) ∙ ap Gap e))
 
