@@ -12,6 +12,7 @@ use Rattle.rules.specs.Bytes.{pieces, join}
 use Rattle.rules.specs.Image.{rowSize, rowBytes, rowOf, nodeIn}
 use Rattle.rules.specs.Map.{Map}
 use Rattle.rules.specs.Replica.{Id, Node, Tree, Document, Replica, treeOf, treeIn, documentOf, revisionsHeld}
+use Rattle.rules.specs.Room.{documentsMost, revisionsMost}
 use Rattle.rules.proofs.ByteLaws.{length-join, pieces-join, join-append}
 use Rattle.tree.specs.declared.table.Found.{Found}
 use Rattle.tree.specs.declared.table.Found.the-variants.{At, Gap}
@@ -87,3 +88,24 @@ absent-shows s i d l e =
     let q = standing s l in
     let f = id-gap d i (documentsOf s) e in
     record { within = omega arith; tree = rw (f .found) }
+
+-- where a document's rows stand among the others, in numbers
+pub record BodyStanding (s : List ℕ) (d : ℕ) (b : Body) : Type 0 where
+  pub size : length s ≡ storeSize
+  pub base : b .base ≡ rowsPlace + rowSize * firstRow (documentsOf s) d
+  pub rows : firstRow (documentsOf s) d + b .rows ≤ revisionsHeld (documentsOf s)
+  pub revisions-most : revisionsHeld (documentsOf s) ≤ revisionsMost
+  pub within : d < documentsMost
+
+pub body-standing : (s : List ℕ) (d : ℕ) (b : Body) → IsBody s d b → BodyStanding s d b
+body-standing s d b h =
+    let q = standing s (h .document .laid) in
+    let f = entry-held s d (h .document) in
+    let w = h .document .within in
+    record {
+      size = q .size;
+      base = h .base;
+      rows = omega (arith, h .rows, f .first-most);
+      «revisions-most» = q .revisions-most;
+      within = omega arith;
+    }

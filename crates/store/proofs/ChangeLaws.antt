@@ -22,7 +22,7 @@ use Rattle.tree.specs.Table.{insertAt}
 use Rattle.store.specs.Change.{modify, blank, withDocument, setSeq, withSeq, setTree, withTree, Holds, CanAddDocument}
 use Rattle.store.proofs.RoundLaws.{length-entry}
 use Rattle.store.proofs.StoredLaws.{length-map, entries-sized, length-head, stored-back, laid-stored, fresh-fits, fresh-stored}
-use Rattle.store.proofs.EntryLaws.{all-at}
+use Rattle.store.proofs.EntryLaws.{document-fits}
 use Rattle.store.proofs.TableLaws.{length-modify, length-insert, map-insert, table-splice, table-insert}
 
 -- bytes that are those of a replica that can be laid out hold it
@@ -32,15 +32,15 @@ holds r s h e = record { bytes = e; laid = laid-stored r h s e; means = ap repli
 -- ---- the head
 
 module _ (d r q : ℕ) (T : List ℕ) where
-  put-documents : (n : ℕ) → splice (storedHead d r q ++ T) 2 (be 2 n) ≡ storedHead n r q ++ T
+  pub put-documents : (n : ℕ) → splice (storedHead d r q ++ T) 2 (be 2 n) ≡ storedHead n r q ++ T
   unfolding splice storedHead be
   put-documents n = refl
 
-  put-revisions : (n : ℕ) → splice (storedHead d r q ++ T) 4 (be 2 n) ≡ storedHead d n q ++ T
+  pub put-revisions : (n : ℕ) → splice (storedHead d r q ++ T) 4 (be 2 n) ≡ storedHead d n q ++ T
   unfolding splice storedHead be
   put-revisions n = refl
 
-  put-seq : (n : ℕ) → splice (storedHead d r q ++ T) 8 (be 4 n) ≡ storedHead d r n ++ T
+  pub put-seq : (n : ℕ) → splice (storedHead d r q ++ T) 8 (be 4 n) ≡ storedHead d r n ++ T
   unfolding splice storedHead be
   put-seq n = refl
 
@@ -57,7 +57,7 @@ entry-split : (x : Id × Document) → entryBytes 0 x ≡ entryFront (x .0) ++ (
 unfolding entryBytes
 entry-split x = simp append-assoc
 
-entry-count : (x y : Id × Document) → length (x .0) ≤ idMost → y .0 ≡ x .0 → y .1 .seq ≡ x .1 .seq
+pub entry-count : (x y : Id × Document) → length (x .0) ≤ idMost → y .0 ≡ x .0 → y .1 .seq ≡ x .1 .seq
     → splice (entryBytes 0 x) 34 (be 2 (length (y .1 .tree))) ≡ entryBytes 0 y
 entry-count x y h i q =
     let n = length-front (x .0) h in
@@ -83,7 +83,7 @@ entry-seq x y h i q =
 
 -- ---- lists of documents
 
-modify-map : {A B : Type 0} (f : A → B) (g : A → A) (h : B → B) (i : ℕ) (xs : List A) (x : A) → h (f (getD xs i x)) ≡ f (g (getD xs i x))
+pub modify-map : {A B : Type 0} (f : A → B) (g : A → A) (h : B → B) (i : ℕ) (xs : List A) (x : A) → h (f (getD xs i x)) ≡ f (g (getD xs i x))
     → modify i h (map f xs) ≡ map f (modify i g xs)
 unfolding modify
 modify-map f g h i [] x e = refl
@@ -114,43 +114,34 @@ rows-seq d q [] = refl
 rows-seq zero q (x ∷ ds) = refl
 rows-seq (suc d) q (x ∷ ds) = rw (rows-seq d q ds)
 
+-- ---- entries
+
+-- part of an entry is written
+pub put-entry : (ds : Map Id Document) (n m q : ℕ) (W : List ℕ) (d k p : ℕ) (y : List ℕ) (g : Id × Document → Id × Document)
+    → All FitsDocument ds → p ≡ entryPlace d + k → d < length ds → k + length y ≤ entrySize
+    → splice (entryBytes 0 (documentAt ds d)) k y ≡ entryBytes 0 (g (documentAt ds d))
+    → splice (storedHead n m q ++ (filled contentsRoom (join (storedEntries ds)) ++ W)) p y
+    ≡ storedHead n m q ++ (filled contentsRoom (join (storedEntries (modify d g ds))) ++ W)
+unfolding storedEntries documentAt
+put-entry ds n m q W d k p y g h e l z x =
+    let o = modify-map (entryBytes 0) g (λ (b : List ℕ). splice b k y) d ds noDocument x in
+    table-splice (storedHead n m q) headSize entrySize contentsRoom (map (entryBytes 0) ds) W (length-head _ _ _) (entries-sized ds h) p d k y (omega arith) (rw (length-map (entryBytes 0) ds) l) z
+    ∙ rw o
+
 -- ---- sequences
 
 module _ (r : Replica) (h : Storable r) where
   abbrev ds : Map Id Document
   ds = r .documents
 
-  abbrev es : List (List ℕ)
-  es = storedEntries ds
-
-  abbrev H : List ℕ
-  H = storedHead (length ds) (revisionsHeld ds) (r .seq .0)
-
-  abbrev W : List ℕ
-  W = filled rowsRoom (join (storedRows ds))
-
-  -- part of an entry is written
-  put-entry : (d k p : ℕ) (y : List ℕ) (g : Id × Document → Id × Document) → p ≡ entryPlace d + k → d < length ds → k + length y ≤ entrySize
-      → splice (entryBytes 0 (documentAt ds d)) k y ≡ entryBytes 0 (g (documentAt ds d))
-      → splice (stored r) p y ≡ H ++ (filled contentsRoom (join (storedEntries (modify d g ds))) ++ W)
-  unfolding stored storedEntries documentAt
-  put-entry d k p y g e l m q =
-      let o = modify-map (entryBytes 0) g (λ (b : List ℕ). splice b k y) d ds noDocument q in
-      table-splice H headSize entrySize contentsRoom (map (entryBytes 0) ds) W (length-head _ _ _) (entries-sized ds (h .documents)) p d k y (omega arith) (rw (length-map (entryBytes 0) ds) l) m
-      ∙ rw o
-
-  fits-at : (d : ℕ) → d < length ds → FitsDocument (documentAt ds d)
-  unfolding documentAt
-  fits-at d l = all-at FitsDocument ds d noDocument (h .documents) l
-
   seq-bytes : (d : ℕ) (q : Seq) → d < length ds
       → splice (splice (stored r) (entryPlace d + 36) (be 4 (q .0))) 8 (be 4 (q .0)) ≡ stored (withSeq d q r)
   unfolding stored withSeq storedRows
   seq-bytes d q l =
       let x : Id × Document = documentAt ds d in
-      let e = entry-seq x (setSeq q x) (fits-at d l .id) refl refl in
+      let e = entry-seq x (setSeq q x) (document-fits ds d (h .documents) l .id) refl refl in
       let n = length-be 4 (q .0) in
-      let p = put-entry d 36 (entryPlace d + 36) (be 4 (q .0)) (setSeq q) refl l (omega arith) e in
+      let p = put-entry ds (length ds) (revisionsHeld ds) (r .seq .0) _ d 36 (entryPlace d + 36) (be 4 (q .0)) (setSeq q) (h .documents) refl l (omega arith) e in
       ap (λ (s : List ℕ). splice s 8 (be 4 (q .0))) p
       ∙ (put-seq (length ds) (revisionsHeld ds) (r .seq .0) _ (q .0)
       ∙ rw (length-modify d (setSeq q) ds, held-seq d q ds, rows-seq d q ds))
@@ -158,7 +149,7 @@ module _ (r : Replica) (h : Storable r) where
   seq-fits : (d : ℕ) (q : Seq) → d < length ds → q .0 ≤ last → Storable (withSeq d q r)
   unfolding withSeq documentAt
   seq-fits d q l m =
-      let f = fits-at d l in
+      let f = document-fits ds d (h .documents) l in
       record {
         documents = all-modify FitsDocument d (setSeq q) ds noDocument (h .documents) (record { id = f .id; seq = m; rows = f .rows });
         «documents-most» = rw (length-modify d (setSeq q) ds) (h .documents-most);
@@ -199,9 +190,9 @@ module _ (r : Replica) (h : Storable r) (at : ℕ) (i : Id) (place : at ≤ leng
       ∙ (put-documents (length docs) (revisionsHeld docs) (r .seq .0) _ (length docs + 1)
       ∙ rw (n, held-insert at (blank i) docs refl, rows-insert at (blank i) docs refl, map-insert (entryBytes 0) at (blank i) docs))
 
-  document-fits : Storable (withDocument at i r)
+  blank-fits : Storable (withDocument at i r)
   unfolding withDocument
-  document-fits =
+  blank-fits =
       let docs = r .documents in
       record {
         documents = all-insert FitsDocument at (blank i) docs (h .documents) (record { id = short; seq = omega arith; rows = tt });
@@ -216,7 +207,7 @@ pub document-holds : (s s₁ s₂ s₃ : List ℕ) (at : ℕ) (i : Id) (n p len 
 document-holds s s₁ s₂ s₃ at i n p len h e f g a b c =
     let r = replicaOf s in
     let l = h .laid in
-    holds (withDocument at i r) s₃ (document-fits r (l .fits) at i (h .place) (h .room) (h .id))
+    holds (withDocument at i r) s₃ (blank-fits r (l .fits) at i (h .place) (h .room) (h .id))
     (rw (c, b, a, e) (ap (λ (x : List ℕ). splice (splice (splice x (p + entrySize) (part p len x)) p (entryBytes 0 (blank i))) 2 (be 2 (length (documentsOf s) + 1))) (l .same)
     ∙ document-bytes r (l .fits) at i (h .place) (h .room) (h .id) p len f (rw e at g)))
 

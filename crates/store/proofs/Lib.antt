@@ -8,3 +8,5 @@ pub mod TableLaws
 pub mod ChangeLaws
 pub mod PlaceLaws
 pub mod BodyLaws
+pub mod RowChangeLaws
+pub mod LearnLaws

@@ -1,16 +1,21 @@
 -- What a change of the buffer does to the replica in it. A path write is made of these, so they pass
 -- through states that aren't replicas yet.
 use mathlib.Core.Path.{_≡_}
-use mathlib.Core.List.{List, [], _∷_, _++_}
+use mathlib.Core.List.{List, [], _∷_}
+use mathlib.Core.Option.{none}
 use Prim.Native.Nat.{ℕ, zero, suc, _≤_, _<_}
-use lib.ListN.{length, take, drop}
+use lib.ListN.{length}
+use Rattle.rules.specs.declared.Revision.{Revision}
 use Rattle.rules.specs.declared.Seq.{Seq}
-use Rattle.rules.specs.Map.{Map}
-use Rattle.rules.specs.Replica.{Id, Tree, Document, Replica}
-use Rattle.rules.specs.Room.{documentsMost, idMost}
+use Rattle.rules.specs.Map.{Map, find, alter, Ascending}
+use Rattle.rules.specs.Order.{orderRev}
+use Rattle.rules.specs.Replica.{Id, Node, Tree, Document, Replica, revisionsHeld}
+use Rattle.rules.specs.Room.{documentsMost, revisionsMost, idMost}
+use Rattle.rules.specs.Write.{learn}
 use Rattle.tree.specs.Table.{insertAt}
+use Rattle.store.specs.declared.read.Body.{Body}
 use Rattle.store.specs.Storage.{stored, replicaOf, Laid}
-use Rattle.store.specs.Documents.{documentsOf, HasDocument}
+use Rattle.store.specs.Documents.{documentsOf, documentAt, HasDocument, IsBody}
 
 -- the i-th changed by f
 unfoldable pub modify : {A : Type 0} → ℕ → (A → A) → List A → List A
@@ -55,3 +60,24 @@ pub record CanAddDocument (s : List ℕ) (at : ℕ) (i : Id) : Type 0 where
   pub place : at ≤ length (documentsOf s)
   pub room : length (documentsOf s) < documentsMost
   pub id : length i ≤ idMost
+
+-- a row goes in at place i of document d
+pub record CanInsertRow (s : List ℕ) (d : ℕ) (b : Body) (i : ℕ) : Type 0 where
+  pub body : IsBody s d b
+  pub place : i ≤ b .rows
+  pub room : revisionsHeld (documentsOf s) < revisionsMost
+
+pub record CanSetRow (s : List ℕ) (d : ℕ) (b : Body) (i : ℕ) : Type 0 where
+  pub body : IsBody s d b
+  pub place : i < b .rows
+
+-- room is asked for only where the revision is new
+pub record CanLearn (s : List ℕ) (d : ℕ) (b : Body) (v : Revision × Node) : Type 0 where
+  pub body : IsBody s d b
+  pub ascending : Ascending orderRev (documentAt (documentsOf s) d .1 .tree)
+  pub room : find orderRev (v .0) (documentAt (documentsOf s) d .1 .tree) ≡ none → revisionsHeld (documentsOf s) < revisionsMost
+
+-- document d knows what v gives, and its rows stand at b now
+pub record Learnt (s : List ℕ) (d : ℕ) (v : Revision × Node) (b : Body) (after : List ℕ) : Type 0 where
+  pub holds : Holds (withTree d (alter orderRev (v .0) (learn (v .1))) (replicaOf s)) after
+  pub body : IsBody after d b
