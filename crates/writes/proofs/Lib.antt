@@ -4,3 +4,4 @@ pub mod AddLaws
 pub mod PlanLaws
 pub mod ReachLaws
 pub mod EditLaws
+pub mod FormLaws

@@ -1,8 +1,9 @@
 -- What a path gives, hash by hash.
-use mathlib.Core.Bool.{Bool, true, false}
+use mathlib.Core.Path.{_≡_}
+use mathlib.Core.Bool.{Bool, true, false, not, _||_}
 use mathlib.Core.List.{List, [], _∷_}
 use mathlib.Core.Option.{Option, none, some}
-use Prim.Native.Nat.{ℕ, zero, suc, _+_, _-_, _*_, _/_}
+use Prim.Native.Nat.{ℕ, zero, suc, _+_, _-_, _*_, _/_, _%_, _≤_}
 use lib.Dec.{eqb, ltb}
 use lib.ListN.{length}
 use Rattle.rules.specs.declared.Content.{Content}
@@ -13,7 +14,7 @@ use Rattle.rules.specs.Choice.{pick}
 use Rattle.rules.specs.Map.{alter}
 use Rattle.rules.specs.Order.{orderRev}
 use Rattle.rules.specs.Replica.{Id, Hash, revision, Node, Tree}
-use Rattle.rules.specs.Room.{hashSize}
+use Rattle.rules.specs.Room.{hashSize, hashesMost, idMost}
 use Rattle.rules.specs.Write.{Write, learn}
 
 -- the path write that a call gives
@@ -23,6 +24,11 @@ writeOf i n p c = record { id = i; number = n; path = p; content = c }
 -- how many hashes bytes are
 unfoldable pub countOf : List ℕ → ℕ
 countOf path = length path / hashSize
+
+-- "path bytes not a multiple of 16, or not 1 to 512 hashes"
+unfoldable pub badBytes : List ℕ → Bool
+badBytes path =
+    not (eqb (length path % hashSize) 0) || (eqb (countOf path) 0 || ltb hashesMost (countOf path))
 
 -- the k-th hash after the newest
 unfoldable pub hashAt : List ℕ → ℕ → Hash
@@ -52,3 +58,13 @@ givenAt w k = (
 unfoldable pub addLast : List (Revision × Node) → Tree → Tree
 addLast [] t = t
 addLast (g ∷ gs) t = alter orderRev (g .0) (learn (g .1)) (addLast gs t)
+
+-- ---- "A write is well-formed if 1 to 3 below don't refuse it": its sizes
+
+pub record GoodForm (w : Write) : Type 0 where
+  pub size : length (w .path) ≡ countOf (w .path) * hashSize
+  pub least : 1 ≤ countOf (w .path)
+  pub most : countOf (w .path) ≤ hashesMost
+  pub deep : countOf (w .path) ≤ w .number .0
+  pub id-least : 1 ≤ length (w .id)
+  pub id-most : length (w .id) ≤ idMost
