@@ -3,7 +3,7 @@ use mathlib.Core.Path.{_≡_}
 use mathlib.Core.Bool.{Bool, true, false, not, _||_}
 use mathlib.Core.List.{List, [], _∷_}
 use mathlib.Core.Option.{Option, none, some}
-use Prim.Native.Nat.{ℕ, zero, suc, _+_, _-_, _*_, _/_, _%_, _≤_}
+use Prim.Native.Nat.{ℕ, zero, suc, _+_, _-_, _*_, _/_, _%_, _≤_, _<_}
 use lib.Dec.{eqb, ltb}
 use lib.ListN.{length}
 use Rattle.rules.specs.declared.Content.{Content}
@@ -52,6 +52,12 @@ givenAt w k = (
   revAt (w .number .0) (w .path) k,
   record { parent = parentAt (w .number .0) (w .path) k; content = contentAt (w .content) k },
 )
+
+-- the path has a k-th hash, and it is numbered
+pub record InPath (path : List ℕ) (number k : ℕ) : Type 0 where
+  pub within : k < countOf path
+  pub most : countOf path ≤ hashesMost
+  pub deep : countOf path ≤ number
 
 -- ---- adding it, the oldest first
 

@@ -2,4 +2,5 @@
 // A read-only pass over the path plans the write and decides every refusal; then it is applied, which
 // cannot fail. So a refused or unchanged write leaves every byte.
 mod form;
+mod path;
 mod plan;
