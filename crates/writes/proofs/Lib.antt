@@ -5,3 +5,4 @@ pub mod PlanLaws
 pub mod ReachLaws
 pub mod EditLaws
 pub mod FormLaws
+pub mod PassLaws

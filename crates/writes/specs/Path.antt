@@ -15,7 +15,7 @@ use Rattle.rules.specs.Map.{alter}
 use Rattle.rules.specs.Order.{orderRev}
 use Rattle.rules.specs.Replica.{Id, Hash, revision, Node, Tree}
 use Rattle.rules.specs.Room.{hashSize, hashesMost, idMost}
-use Rattle.rules.specs.Write.{Write, learn}
+use Rattle.rules.specs.Write.{Write, gives, learn}
 
 -- the path write that a call gives
 abbrev pub writeOf : Id → RevNumber → List ℕ → Content → Write
@@ -47,11 +47,12 @@ abbrev pub contentAt : Content → ℕ → Option Content
 contentAt c k = pick (eqb k 0) (some c) none
 
 -- what a path gives for its k-th hash
-unfoldable pub givenAt : Write → ℕ → Revision × Node
-givenAt w k = (
-  revAt (w .number .0) (w .path) k,
-  record { parent = parentAt (w .number .0) (w .path) k; content = contentAt (w .content) k },
-)
+unfoldable pub givenAt : ℕ → List ℕ → Content → ℕ → Revision × Node
+givenAt number path c k = (revAt number path k, record { parent = parentAt number path k; content = contentAt c k })
+
+-- what it gives for all of them: the id doesn't matter
+unfoldable pub givesOf : RevNumber → List ℕ → Content → List (Revision × Node)
+givesOf number path c = gives (writeOf [] number path c)
 
 -- the path has a k-th hash, and it is numbered
 pub record InPath (path : List ℕ) (number k : ℕ) : Type 0 where
