@@ -53,21 +53,17 @@ none-first false a ts e = (refl, e)
 
 module _ (w : Write) where
   pub form-1 : badId (w .id) ≡ true → firstThat (formRefusals w) ≡ some BadId
-  unfolding formRefusals
   form-1 i = first-holds (badId (w .id)) BadId _ i
 
   pub form-2 : badId (w .id) ≡ false → badBytes (w .path) ≡ true → firstThat (formRefusals w) ≡ some BadPath
-  unfolding formRefusals
   form-2 i p = first-fails (badId (w .id)) BadId _ i ∙ first-holds (badPath w) BadPath _ (path-test w ∙ p)
 
   pub form-3 : badId (w .id) ≡ false → badBytes (w .path) ≡ false → ltb (w .number .0) (countOf (w .path)) ≡ true → firstThat (formRefusals w) ≡ some LowNumber
-  unfolding formRefusals
   form-3 i p n =
       first-fails (badId (w .id)) BadId _ i
       ∙ (first-fails (badPath w) BadPath _ (path-test w ∙ p) ∙ first-holds (lowNumber w) LowNumber _ (number-test w ∙ n))
 
   pub form-clear : badId (w .id) ≡ false → badBytes (w .path) ≡ false → ltb (w .number .0) (countOf (w .path)) ≡ false → firstThat (formRefusals w) ≡ none
-  unfolding formRefusals
   form-clear i p n =
       first-fails (badId (w .id)) BadId _ i
       ∙ (first-fails (badPath w) BadPath _ (path-test w ∙ p) ∙ (first-fails (lowNumber w) LowNumber [] (number-test w ∙ n) ∙ first-empty))
@@ -75,7 +71,7 @@ module _ (w : Write) where
 -- ---- a good form
 
 pub good-form : (w : Write) → firstThat (formRefusals w) ≡ none → GoodForm w
-unfolding formRefusals badId badBytes countOf
+unfolding badId badBytes countOf
 good-form w e =
     let a = none-first (badId (w .id)) BadId _ e in
     let b = none-first (badPath w) BadPath _ (a .1) in

@@ -17,7 +17,7 @@ use Rattle.rules.specs.declared.Order.the-variants.{Less, Equal, Greater}
 use Rattle.rules.specs.declared.Revision.{Revision}
 use Rattle.rules.specs.declared.RevNumber.{RevNumber}
 use Rattle.rules.specs.Choice.{pick, maybe}
-use Rattle.rules.specs.Map.{byOrder, find, Below}
+use Rattle.rules.specs.Map.{byOrder, find, Below, Ascending}
 use Rattle.rules.specs.Order.{orderN, andThen, isEqual, orderBytes, orderRev, sameRev}
 use Rattle.rules.specs.Read.{parentIn}
 use Rattle.rules.specs.Replica.{Hash, revision, Node, Tree}
@@ -28,11 +28,16 @@ use Rattle.tree.specs.declared.row.Kind.{Kind}
 use Rattle.tree.specs.declared.row.Row.{Row}
 use Rattle.tree.specs.declared.table.Found.{Found}
 use Rattle.tree.specs.declared.table.Found.the-variants.{At, Gap}
-use Rattle.tree.specs.Rows.{contentOf, parentOf, meaning}
-use Rattle.tree.specs.Table.{placeOf}
+use Rattle.tree.specs.Rows.{contentOf, parentOf, meaning, rowAt}
+use Rattle.tree.specs.Table.{treeAt, placeOf, Searchable}
+use Rattle.tree.proofs.RowLaws.{row-at-means}
+use Rattle.tree.proofs.TableLaws.{noRow, length-tree, tree-row, tree-take}
+use Rattle.tree.proofs.PlaceLaws.{place-at, place-gap}
+use Rattle.tree.proofs.SearchLaws.{ascending-take}
+use Rattle.writes.specs.declared.plan.Pass.{Pass}
 use Rattle.writes.specs.declared.plan.Plan.{Plan}
 use Rattle.writes.specs.Path.{countOf, hashAt, revAt, parentAt, contentAt, givenAt, writeOf, givesOf}
-use Rattle.writes.specs.Plan.{isNewParent, noPlan, planned, planFrom, planOf}
+use Rattle.writes.specs.Plan.{isNewParent, noPlan, planned, planFrom, planOf, Stepped}
 use Rattle.writes.proofs.PathLaws.{length-gives, gives-next}
 
 -- ---- what a path gives, as a row
@@ -50,7 +55,7 @@ module _ (number : ℕ) (path : List ℕ) (c : Content) (k : ℕ) (r : Row) (rev
   given-with h e p =
       let t : ltb (k + 1) (countOf path) ≡ true = lt-ltb (k + 1) (countOf path) h in
       let q : parentOf (r .rev) (r .known) (r .parent) ≡ some (revision (pred (number - k)) (hashAt path (k + 1))) =
-          ap₂ (λ (v : Revision) (b : Bool). parentOf v b (r .parent)) rev e ∙ ap (λ (x : Hash). some (revision (pred (number - k)) x)) p in
+      ap₂ (λ (v : Revision) (b : Bool). parentOf v b (r .parent)) rev e ∙ ap (λ (x : Hash). some (revision (pred (number - k)) x)) p in
       means (some (revAt number path (k + 1))) (q ∙ ap (λ (n : ℕ). some (revision n (hashAt path (k + 1)))) (one-lower number k))
       (ap (λ (b : Bool). pick b (some (revAt number path (k + 1))) none) t)
 
@@ -216,7 +221,7 @@ below-front : (v : Revision) (t : Tree) (i top : ℕ) → i ≤ top → top ≤ 
 below-front v t i top h l b c =
     let n : length (take top t) ≡ top = length-take-le top t l in
     let e : drop i t ≡ drop i (take top t) ++ drop top t =
-        ap (drop i) (sym (take-append-drop top t)) ∙ drop-append-le i (take top t) (drop top t) (omega arith) in
+    ap (drop i) (sym (take-append-drop top t)) ∙ drop-append-le i (take top t) (drop top t) (omega arith) in
     rw e (below-append v (drop i (take top t)) (drop top t) b c)
 
 -- ---- the pass
@@ -281,3 +286,64 @@ passing-end t number path c k top p h s =
     let w : Write = writeOf [] number path c in
     let l : length (gives w) ≤ k = let z = length-gives w in omega arith in
     sym (ap (planFrom t k p) (drop-of-length-le (gives w) l)) ∙ s .plan
+
+-- ---- the two cases of a step, as the code makes them
+
+pub with-new : (t : Tree) (k : ℕ) (p : Plan) (r : Row) (m : ℕ) → find orderRev (r .rev) t ≡ none → m ≡ pick (r .known) 1 0
+    → _≡_ {A = Plan} (record { crossed = p .crossed; other = p .other; revisions = p .revisions + 1; parents = p .parents + m; reach = k + 2 }) (planned t k p (meaning r))
+unfolding meaning
+with-new t k p r m e q =
+    let x : m ≡ pick (not (isNone (meaning r .1 .parent))) 1 0 = q ∙ ap (λ (b : Bool). pick b 1 0) (sym (has-parent r)) in
+    ap {B = Plan} (λ (n : ℕ). record { crossed = p .crossed; other = p .other; revisions = p .revisions + 1; parents = p .parents + n; reach = k + 2 }) x
+    ∙ sym (new-planned t k p (meaning r) e)
+
+pub with-held : (t : Tree) (k : ℕ) (p : Plan) (h g : Row) (x y l : Bool) (m z : ℕ) → find orderRev (g .rev) t ≡ some (meaning h .1)
+    → l ≡ lacksParent (meaning g .1 .parent) (meaning h .1 .parent)
+    → x ≡ (p .crossed || differ sameRev (meaning h .1 .parent) (meaning g .1 .parent))
+    → y ≡ (p .other || differ agree (contentOf (h .kind)) (contentOf (g .kind)))
+    → m ≡ pick l 1 0
+    → z ≡ pick l (k + 2) (p .reach)
+    → _≡_ {A = Plan} (record { crossed = x; other = y; revisions = p .revisions; parents = p .parents + m; reach = z }) (planned t k p (meaning g))
+unfolding meaning
+with-held t k p h g x y l m z e a b c d f =
+    let d′ = d ∙ ap (λ (v : Bool). pick v 1 0) a in
+    let f′ = f ∙ ap (λ (v : Bool). pick v (k + 2) (p .reach)) a in
+    _∙_ {A = Plan} (λ i. record { crossed = b i; other = c i; revisions = p .revisions; parents = p .parents + d′ i; reach = f′ i })
+    (sym (held-planned t k p (meaning g) (meaning h .1) e))
+
+-- ---- where a row is
+
+-- row i of the rows that were searched is the revision looked for
+pub row-found : (base n i : ℕ) (s : List ℕ) (v : Revision) (r : Row) → placeOf 0 v (treeAt base n s) ≡ At i → r ≡ rowAt (base + i * 48) s
+    → (r .rev ≡ v) × (find orderRev v (treeAt base n s) ≡ some (meaning r .1)) × (i < n) × (getD (treeAt base n s) i noRow .0 ≡ v)
+unfolding meaning
+row-found base n i s v r e q =
+    let p = place-at i v (treeAt base n s) e in
+    let h : i < n = subst (λ (x : ℕ). i < x) (length-tree base n s) (p .within) in
+    let m : meaning r ≡ getD (treeAt base n s) i noRow = ap meaning q ∙ (row-at-means (base + i * 48) s ∙ sym (tree-row base n i s h)) in
+    (ap (λ (x : Revision × Node). x .0) m ∙ p .is, p .found ∙ ap (λ (x : Revision × Node). some (x .1)) (sym m), h, p .is)
+
+pub gap-within : (base n i : ℕ) (s : List ℕ) (v : Revision) → placeOf 0 v (treeAt base n s) ≡ Gap i → i ≤ n
+gap-within base n i s v e = subst (λ (x : ℕ). i ≤ x) (length-tree base n s) (place-gap i v (treeAt base n s) e .within)
+
+-- ---- the loop of the pass
+
+-- the rows up to the top can be searched too
+pub search-front : (base n top : ℕ) (s : List ℕ) → Searchable base n s → top ≤ n → Searchable base top s
+search-front base n top s h l = record {
+  within = (let w = h .within in omega arith);
+  ascending = subst (Ascending orderRev) (tree-take base top n s l) (ascending-take top (treeAt base n s) (h .ascending));
+}
+
+pub passing-step : (s : List ℕ) (base n : ℕ) (number : RevNumber) (path : List ℕ) (c : Content) (k top : ℕ) (p : Plan) (g : Revision × Node) (r : Pass)
+    → k < countOf path → countOf path ≤ number .0
+    → Passing (treeAt base n s) number path c k top p → g ≡ givenAt (number .0) path c k → Stepped s base top g p k r
+    → Passing (treeAt base n s) number path c (k + 1) (r .top) (r .plan)
+unfolding givenAt
+passing-step s base n number path c k top p g r h d q e z =
+    let l : top ≤ n = let x = q .rows in let y = length-tree base n s in omega arith in
+    let t : take top (treeAt base n s) ≡ treeAt base top s = tree-take base top n s l in
+    passing-next (treeAt base n s) number path c k top (r .top) p (r .plan) h d q
+    (z .plan ∙ ap₂ (λ (u : Tree) (x : Revision × Node). planned u k p x) (sym t) e)
+    (z .within)
+    (λ u m. subst (λ (x : Tree). Below orderRev u (drop (r .top) x)) (sym t) (z .lower u (subst (λ (x : Revision × Node). orderRev u (x .0) ≡ Less) (sym e) m)))

@@ -169,7 +169,14 @@ fn step(b: &[u8], base: usize, top: usize, given: Row, k: usize, p: Plan) -> Pas
 }
 
 // What a path would do to the document whose n rows begin at base.
-pub(crate) fn plan_path(b: &[u8], base: usize, n: usize, number: RevNumber, path: &[u8], content: Content) -> Plan
+pub(crate) fn plan_path(
+    b: &[u8],
+    base: usize,
+    n: usize,
+    number: RevNumber,
+    path: &[u8],
+    content: Content,
+) -> Plan
     requires { ⌜ CanPlan (now b) base n (number .0) (now path) ⌝ }
     ensures { λ r. ⌜ r ≡ planOf (treeAt base n (now (b .entry))) (givesOf number (now (path .entry)) content) ⌝ }
 {

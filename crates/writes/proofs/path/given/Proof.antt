@@ -1,4 +1,7 @@
 use borrow.Author.Needs.{needs}
+use Rattle.writes.proofs.PassLaws.{given-with, given-last}
+use Rattle.writes.specs.Path.{countOf, hashAt}
+use mathlib.Core.Path.{refl}
 use Rattle.writes.proofs.path.given.Statement.{statement}
 use Rattle.writes.proofs.path.given.Tie as tie
 use Rattle.writes.proofs.path.given.Reads as reads
@@ -29,11 +32,13 @@ get-hash-requires c κs = search needs
 
 -- src/path.rt:45:9
 returns : tie.Need-returns
-returns c = search needs
+unfolding countOf hashAt
+returns c = given-with ((c .before .before .before .before .before) .args .number .0) ((c .before .before .before .before .before) .args .path .now) ((c .before .before .before .before .before) .args .content) ((c .before .before .before .before .before) .args .k) _ ((c .before .before .before .rev-at) .ensures) ((c .before .before .kind-at) .ensures) ((c .before .if1) .taken) refl ((c .get-hash) .ensures .is)
 
 -- src/path.rt:36:1
 returns-2 : tie.Need-returns-2
-returns-2 c = search needs
+unfolding countOf
+returns-2 c = given-last ((c .before .before .before .before) .args .number .0) ((c .before .before .before .before) .args .path .now) ((c .before .before .before .before) .args .content) ((c .before .before .before .before) .args .k) _ ((c .before .before .rev-at) .ensures) ((c .before .kind-at) .ensures) ((c .if1) .left) refl
 
 pub given-spec : {M : Type 1} → statement M
 given-spec =

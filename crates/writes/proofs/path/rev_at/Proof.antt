@@ -1,4 +1,10 @@
 use borrow.Author.Needs.{needs}
+use Rattle.writes.specs.Path.{countOf, hashAt, revAt}
+use Rattle.rules.specs.Replica.{revision}
+use native.Mathlib.Omega.{arith}
+use Prim.Native.Nat.{ℕ, _-_}
+use mathlib.Core.List.{List}
+use mathlib.Core.Path.{ap}
 use Rattle.writes.proofs.path.rev_at.Statement.{statement}
 use Rattle.writes.proofs.path.rev_at.Tie as tie
 use Rattle.writes.proofs.path.rev_at.Reads as reads
@@ -11,7 +17,8 @@ mul-at c = search needs
 
 -- src/path.rt:18:9
 get-hash-requires : tie.Need-get-hash-requires
-get-hash-requires c κs = search needs
+unfolding countOf
+get-hash-requires c κs = let h = (c .before) .pre .within in omega arith
 
 -- src/path.rt:20:39
 cast-t6 : tie.Need-cast-t6
@@ -23,7 +30,8 @@ sub-t7 c = search needs
 
 -- src/path.rt:13:1
 returns : tie.Need-returns
-returns c = search needs
+unfolding revAt hashAt
+returns c = ap (λ (h : List ℕ). revision ((c .before .before .before) .args .number .0 - (c .before .before .before) .args .k) h) ((c .before .get-hash) .ensures .is)
 
 pub rev-at-spec : {M : Type 1} → statement M
 rev-at-spec = tie.close (tie.spec mul-at get-hash-requires cast-t6 sub-t7 returns)

@@ -1,4 +1,6 @@
 use borrow.Author.Needs.{needs}
+use mathlib.Core.Bool.{not}
+use mathlib.Core.Path.{ap}
 use Rattle.writes.proofs.plan.other_content.Statement.{statement}
 use Rattle.writes.proofs.plan.other_content.Tie as tie
 use Rattle.writes.proofs.plan.other_content.Reads as reads
@@ -35,7 +37,7 @@ returns-2 c = search needs
 
 -- src/plan.rt:59:1
 returns-3 : tie.Need-returns-3
-returns-3 c = search needs
+returns-3 c = rw ((c .before .before .before .before .before .held) .given .1, (c .before .before .given) .given .1) (ap not ((c .same-content) .ensures))
 
 pub other-content-spec : {M : Type 1} → statement M
 other-content-spec =

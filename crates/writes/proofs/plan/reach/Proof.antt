@@ -10,11 +10,11 @@ add-result c = search needs
 
 -- src/plan.rt:110:1
 returns : tie.Need-returns
-returns c = search needs
+returns c = rw (c .if1 .taken)
 
 -- src/plan.rt:110:1
 returns-2 : tie.Need-returns-2
-returns-2 c = search needs
+returns-2 c = rw (c .if1 .left)
 
 pub reach-spec : {M : Type 1} → statement M
 reach-spec = tie.close (tie.spec add-result returns returns-2)

@@ -30,7 +30,7 @@ enum-told-4 c = search needs
 
 -- src/plan.rt:43:1
 returns : tie.Need-returns
-returns c = search needs
+returns c = rw ((c .before .before .before .before .a) .given .1, (c .before .b) .given .1)
 
 -- src/plan.rt:43:1
 returns-2 : tie.Need-returns-2

@@ -1,4 +1,7 @@
 use borrow.Author.Needs.{needs}
+use Rattle.writes.proofs.PassLaws.{with-held}
+use mathlib.Core.Bool.{Bool, _||_}
+use mathlib.Core.Path.{ap, _∙_}
 use Rattle.writes.proofs.plan.with_held.Statement.{statement}
 use Rattle.writes.proofs.plan.with_held.Tie as tie
 use Rattle.writes.proofs.plan.with_held.Reads as reads
@@ -44,7 +47,8 @@ reach-requires c κs = search needs
 
 -- src/plan.rt:132:1
 returns : tie.Need-returns
-returns c = search needs
+returns c =
+    λ t e. with-held t ((c .before .before .before .before .before .before .before .before) .args .k) ((c .before .before .before .before .before .before .before .before) .args .p) ((c .before .before .before .before .before .before .before .before) .args .held) ((c .before .before .before .before .before .before .before .before) .args .given) ((c .before .before .before .before .before .either) .result) ((c .before .before .before .either2) .result) ((c .before .before .before .before .before .before .before .lacks-parent) .result) ((c .before .before .one-if) .result) ((c .reach) .result) e ((c .before .before .before .before .before .before .before .lacks-parent) .ensures) ((c .before .before .before .before .before .either) .ensures ∙ ap (λ (v : Bool). (c .before .before .before .before .before .before .before .before) .args .p .crossed || v) ((c .before .before .before .before .before .before .other-parent) .ensures)) ((c .before .before .before .either2) .ensures ∙ ap (λ (v : Bool). (c .before .before .before .before .before .before .before .before) .args .p .other || v) ((c .before .before .before .before .other-content) .ensures)) ((c .before .before .one-if) .ensures .0) ((c .reach) .ensures)
 
 pub with-held-spec : {M : Type 1} → statement M
 with-held-spec =

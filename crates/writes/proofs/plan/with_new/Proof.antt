@@ -1,4 +1,5 @@
 use borrow.Author.Needs.{needs}
+use Rattle.writes.proofs.PassLaws.{with-new}
 use Rattle.writes.proofs.plan.with_new.Statement.{statement}
 use Rattle.writes.proofs.plan.with_new.Tie as tie
 use Rattle.writes.proofs.plan.with_new.Reads as reads
@@ -23,7 +24,7 @@ add-t7 c = search needs
 
 -- src/plan.rt:118:1
 returns : tie.Need-returns
-returns c = search needs
+returns c = λ t e. with-new t ((c .before .before .before) .args .k) ((c .before .before .before) .args .p) ((c .before .before .before) .args .given) ((c .before .one-if) .result) e ((c .before .one-if) .ensures .0)
 
 pub with-new-spec : {M : Type 1} → statement M
 with-new-spec = tie.close (tie.spec add-t4 one-if-requires add-t6 add-t7 returns)
