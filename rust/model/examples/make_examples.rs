@@ -9,7 +9,7 @@
 
 use refile_model::images::{lot, save};
 use refile_model::layout::{image_bytes, Image};
-use refile_model::model::{Hash, Model};
+use refile_model::model::{Hash, Held, Model};
 use refile_model::offers::hash;
 use refile_model::random::Random;
 use refile_model::{Content, Counts, Replica};
@@ -46,7 +46,7 @@ fn report(image: &[u8]) -> String {
 }
 
 fn sound_examples() -> Vec<Example> {
-    story_holds();
+    let (north_after, south_after) = story();
     let sound = [
         (
             "lot",
@@ -66,6 +66,16 @@ fn sound_examples() -> Vec<Example> {
         ),
         ("north", save(&north()), "seq 5 documents 4 revisions 7\n"),
         ("south", save(&south()), "seq 5 documents 4 revisions 7\n"),
+        (
+            "north-after",
+            save(&north_after),
+            "seq 8 documents 5 revisions 10\n",
+        ),
+        (
+            "south-after",
+            save(&south_after),
+            "seq 8 documents 5 revisions 10\n",
+        ),
     ];
     let sound = sound.into_iter().map(|(name, image, begins)| Example {
         name: name.to_string(),
@@ -105,14 +115,15 @@ fn south() -> Model {
     south
 }
 
-/// What the manual tells of the two offices: an offer each way is refused, and an old body that is
-/// offered again is dropped.
-fn story_holds() {
+/// What the manual tells of the two offices: an old body that is offered again is dropped, an offer
+/// each way is refused, and one new revision on the disputed one lets both agree. Gives North and
+/// South as they are in the end.
+fn story() -> (Model, Model) {
     let (mut north, mut south) = (north(), south());
-    let mut again = south.clone();
-    let old = again.write(b"invoice-1042", 1, &hash(0x33), Live(5));
+    let former = south.clone();
+    let old = south.write(b"invoice-1042", 1, &hash(0x33), Live(5));
     assert_eq!(old, Ok(false));
-    assert_eq!(again.held(), south.held());
+    assert_eq!(south.held(), former.held());
     let counts = |changed, unchanged, refused| Counts {
         changed,
         unchanged,
@@ -120,6 +131,23 @@ fn story_holds() {
     };
     assert_eq!(south.pull(&north, 0), counts(2, 2, 1));
     assert_eq!(north.pull(&south, 0), counts(2, 3, 1));
+    let disputed = Some((2, hash(0x91)));
+    let edited = north.edit(b"invoice-1041", hash(0x62), Live(1041), disputed);
+    assert_eq!(edited, Ok(3));
+    assert_eq!(south.pull(&north, 0), counts(1, 5, 0));
+    assert_eq!(north.pull(&south, 0), counts(0, 6, 0));
+    assert_eq!(without_sequences(&north), without_sequences(&south));
+    (north, south)
+}
+
+/// What a store holds, but for the sequences, which each office counts for itself.
+fn without_sequences(store: &Model) -> Held {
+    let mut held = store.held().clone();
+    held.sequence = 0;
+    for document in held.documents.values_mut() {
+        document.sequence = 0;
+    }
+    held
 }
 
 /// A store with every kind of tree and no room for anything more: 32 documents, 512 revisions, and
