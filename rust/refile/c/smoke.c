@@ -49,7 +49,7 @@ static bool untouched_from(size_t at) {
     return true;
 }
 
-static bool is(uint64_t result, uint32_t refusal, uint32_t value) {
+static bool is(uint64_t result, uint32_t refusal, uint64_t value) {
     return refile_refusal(result) == refusal && refile_value(result) == value;
 }
 
@@ -61,7 +61,7 @@ static void refused(uint64_t result, uint32_t refusal, const char *what) {
 }
 
 /* An accepted call that wrote so many bytes to the buffer. */
-static void answered(uint64_t result, uint32_t value, size_t bytes, const char *what) {
+static void answered(uint64_t result, uint64_t value, size_t bytes, const char *what) {
     expect(is(result, 0, value), what);
     expect(untouched_from(bytes), what);
 }
@@ -103,7 +103,7 @@ static uint64_t edit_alone(char hash, uint32_t kind, uint64_t label) {
 
 static void fresh(void) { expect(is(refile_fresh(replica, sizeof replica), 0, 0), "fresh"); }
 
-static uint32_t sequence(void) {
+static uint64_t sequence(void) {
     return refile_value(refile_update_sequence(replica, sizeof replica));
 }
 
@@ -247,13 +247,19 @@ static void reads(void) {
     prepare();
     refused(refile_changes(replica, sizeof replica, 0, out, 2, numbers, sizeof numbers),
             REFILE_SHORT_BUFFER, "changes, a short buffer");
-    refused(refile_changes(replica, sizeof replica, 0, out, 3, numbers, 15), REFILE_BAD_ANSWER,
-            "changes, an answer of 15 bytes");
-    answered(refile_changes(replica, sizeof replica, 4, out, 0, numbers, sizeof numbers), 0, 0,
+    refused(refile_changes(replica, sizeof replica, 0, out, 3, numbers, sizeof numbers - 1),
+            REFILE_SHORT_BUFFER, "changes, a short answer");
+    answered(refile_changes(replica, sizeof replica, 4, out, 0, numbers, 0), 0, 0,
              "no more changes");
     answered(refile_changes(replica, sizeof replica, 3, out, 3, numbers, sizeof numbers), 1, 3,
              "changes");
     expect(numbers[3] == 3 && numbers[7] == 4 && numbers[11] == 2 && numbers[15] == 0, "changes");
+    prepare();
+    refused(refile_counts(replica, sizeof replica, out, REFILE_COUNTS_BYTES - 1),
+            REFILE_SHORT_BUFFER, "counts, a short answer");
+    answered(refile_counts(replica, sizeof replica, out, sizeof out), 0, REFILE_COUNTS_BYTES,
+             "counts");
+    expect(out[3] == 1 && out[7] == 4, "counts");
 }
 
 /* Runs on what cases 1 to 5 leave, in either direction. */
@@ -262,6 +268,8 @@ static void pulls(void) {
 
     expect(is(refile_fresh(other, sizeof other), 0, 0), "fresh");
     prepare();
+    refused(refile_pull(replica, sizeof replica, other, sizeof other, 0, out, sizeof counts - 1),
+            REFILE_SHORT_BUFFER, "pull, a short answer");
     expect(is(refile_pull(other, sizeof other, replica, sizeof replica, 0, counts, sizeof counts),
               0, 0),
            "pull");
@@ -297,7 +305,7 @@ static void image_is(const char *image_path, const char *report_path) {
 
     report[text] = 0;
     prepare();
-    answered(refile_report(image, length, out, text), (uint32_t)text, text, image_path);
+    answered(refile_report(image, length, out, text), text, text, image_path);
     expect(memcmp(out, report, text) == 0, image_path);
     prepare();
     refused(refile_report(image, length, out, text - 1), REFILE_SHORT_BUFFER, image_path);
@@ -310,8 +318,7 @@ static void image_is(const char *image_path, const char *report_path) {
     expect(is(result, 0, 0), image_path);
     prepare();
     refused(refile_save(replica, sizeof replica, out, length - 1), REFILE_SHORT_BUFFER, image_path);
-    answered(refile_save(replica, sizeof replica, out, length), (uint32_t)length, length,
-             image_path);
+    answered(refile_save(replica, sizeof replica, out, length), length, length, image_path);
     expect(memcmp(out, image, length) == 0, image_path);
 }
 
