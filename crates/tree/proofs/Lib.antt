@@ -6,3 +6,4 @@ pub mod SearchLaws
 pub mod LeafLaws
 pub mod WinnerLaws
 pub mod PathLaws
+pub mod Outcomes

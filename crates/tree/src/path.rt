@@ -14,8 +14,8 @@ pub fn path_count(s: &[u8], base: usize, n: usize, rev: Revision) -> usize
     ensures { λ r. ⌜ IsPathCount (treeAt base n (now (s .entry))) n rev r ⌝ }
 {
     let number = rev.number;
-    let x = number.0;
-    if x == 0 {
+    let top = number.0;
+    if top == 0 {
         return 0;
     }
     let Found::At(i) = find(s, base, n, rev) else {
@@ -27,7 +27,7 @@ pub fn path_count(s: &[u8], base: usize, n: usize, rev: Revision) -> usize
     }
     let hash = row.parent;
     let parent = Revision {
-        number: RevNumber(x - 1),
+        number: RevNumber(top - 1),
         hash,
     };
     1 + path_count(s, base, i, parent)
