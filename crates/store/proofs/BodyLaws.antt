@@ -21,7 +21,7 @@ use Rattle.tree.specs.Table.{treeAt}
 use Rattle.tree.proofs.RowLaws.{row-back}
 use Rattle.store.specs.declared.read.Body.{Body}
 use Rattle.store.specs.Storage.{rowsRoom, rowsPlace, storeSize, filled, rowsIn, storedRows, stored, replicaOf, All, FitsDocument, Storable, Laid}
-use Rattle.store.specs.Documents.{documentsOf, noDocument, documentAt, firstRow, rowPlace, placeOfId, HasDocument, IsBody, Shows}
+use Rattle.store.specs.Documents.{documentsOf, noDocument, documentAt, firstRow, rowPlace, placeOfId, HasDocument, IsBody, Shows, IsBodyOf}
 use Rattle.store.proofs.StoredLaws.{length-map, map-append, length-rowsIn, rows-sized, fit-rows, past-contents, tree-back}
 use Rattle.store.proofs.EntryLaws.{document-fits, Standing, standing, EntryHeld, entry-held}
 use Rattle.store.proofs.PlaceLaws.{IsAt, IsGap, id-found, id-gap}
@@ -75,19 +75,21 @@ body-shows s d b h =
       tree = rw (h .base, h .rows) (ap (treeAt (rowPlace (firstRow (documentsOf s) d)) (length (documentAt (documentsOf s) d .1 .tree))) (l .same) ∙ body-stored r d (l .fits) (h .document .within));
     }
 
-pub found-shows : (s : List ℕ) (i : Id) (d : ℕ) (b : Body) → placeOfId 0 i (documentsOf s) ≡ At d → IsBody s d b → Shows s b (treeOf (replicaOf s) i)
+pub found-body : (s : List ℕ) (i : Id) (d : ℕ) (b : Body) → placeOfId 0 i (documentsOf s) ≡ At d → IsBody s d b → IsBodyOf s i b
 unfolding treeOf documentOf
-found-shows s i d b e h =
+found-body s i d b e h =
     let w = body-shows s d b h in
     let f = id-found d i (documentsOf s) e in
-    record { within = w .within; tree = w .tree ∙ rw (f .found) }
+    let p = h .base in
+    let n = h .rows in
+    record { is = rw e (λ j. record { base = p j; rows = n j }); shows = record { within = w .within; tree = w .tree ∙ rw (f .found) } }
 
-pub absent-shows : (s : List ℕ) (i : Id) (d : ℕ) → Laid s → placeOfId 0 i (documentsOf s) ≡ Gap d → Shows s (record { base = rowsPlace; rows = 0 }) (treeOf (replicaOf s) i)
+pub absent-body : (s : List ℕ) (i : Id) (d : ℕ) → Laid s → placeOfId 0 i (documentsOf s) ≡ Gap d → IsBodyOf s i (record { base = rowsPlace; rows = 0 })
 unfolding treeOf documentOf treeAt pieces
-absent-shows s i d l e =
+absent-body s i d l e =
     let q = standing s l in
     let f = id-gap d i (documentsOf s) e in
-    record { within = omega arith; tree = rw (f .found) }
+    record { is = rw e; shows = record { within = omega arith; tree = rw (f .found) } }
 
 -- where a document's rows stand among the others, in numbers
 pub record BodyStanding (s : List ℕ) (d : ℕ) (b : Body) : Type 0 where

@@ -75,7 +75,7 @@ pub fn add_document(b: &mut [u8], at: usize, id: &[u8])
 }
 
 // Puts a row in at place i of document d, whose rows stand at `body`.
-pub fn insert_row_in(b: &mut [u8], d: usize, body: Body, i: usize, row: Row)
+fn insert_row_in(b: &mut [u8], d: usize, body: Body, i: usize, row: Row)
     requires { ⌜ CanInsertRow (now b) d body i ⌝ }
     ensures { λ _. ⌜ Holds (withTree d (insertAt i (meaning row)) (replicaOf (now (b .entry)))) (now (b .exit)) ⌝ }
 {
@@ -89,7 +89,7 @@ pub fn insert_row_in(b: &mut [u8], d: usize, body: Body, i: usize, row: Row)
 }
 
 // Puts a row in the place of row i of document d, whose rows stand at `body`.
-pub fn set_row_in(b: &mut [u8], d: usize, body: Body, i: usize, row: Row)
+fn set_row_in(b: &mut [u8], d: usize, body: Body, i: usize, row: Row)
     requires { ⌜ CanSetRow (now b) d body i ⌝ }
     ensures { λ _. ⌜ Holds (withTree d (λ t. set t i (meaning row)) (replicaOf (now (b .entry)))) (now (b .exit)) ⌝ }
 {

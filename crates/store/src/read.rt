@@ -11,10 +11,10 @@ use tree::table::Found;
 ghost use mathlib.Core.Path.{_≡_};
 ghost use Prim.Native.Nat.{ℕ, _+_, _*_, _<_, _≤_};
 ghost use lib.ListN.{length};
-ghost use Rattle.rules.specs.Replica.{revisionsHeld, treeOf};
+ghost use Rattle.rules.specs.Replica.{revisionsHeld};
 ghost use Rattle.rules.specs.Room.{documentsMost};
 ghost use Rattle.store.specs.Storage.{replicaOf, Laid};
-ghost use Rattle.store.specs.Documents.{documentsOf, documentAt, firstRow, entryPlace, placeOfId, HasDocument, IsBody, Shows};
+ghost use Rattle.store.specs.Documents.{documentsOf, documentAt, firstRow, entryPlace, placeOfId, HasDocument, IsBody, IsBodyOf};
 
 // The rows of one document: where they begin, and how many they are.
 pub struct Body {
@@ -68,7 +68,7 @@ pub fn row_count(b: &[u8], d: usize) -> usize
 }
 
 // The index of document d's first row.
-pub fn first_row(b: &[u8], d: usize) -> usize
+fn first_row(b: &[u8], d: usize) -> usize
     requires { ⌜ HasDocument (now b) d ⌝ }
     ensures { λ r. ⌜ r ≡ firstRow (documentsOf (now (b .entry))) d ⌝ }
 {
@@ -129,9 +129,9 @@ pub fn body_of(b: &[u8], d: usize) -> Body
 }
 
 // The rows of the document `id`, none where it is absent.
-pub fn tree_of(b: &[u8], id: &[u8]) -> Body
+pub fn body_of_id(b: &[u8], id: &[u8]) -> Body
     requires { ⌜ Laid (now b) ⌝ }
-    ensures { λ r. ⌜ Shows (now (b .entry)) r (treeOf (replicaOf (now (b .entry))) (now (id .entry))) ⌝ }
+    ensures { λ r. ⌜ IsBodyOf (now (b .entry)) (now (id .entry)) r ⌝ }
 {
     match find_document(b, id) {
         Found::At(d) => body_of(b, d),
