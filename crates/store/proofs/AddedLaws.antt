@@ -1,6 +1,6 @@
 -- Changes by a document's index are changes at its id. Assumes nothing.
-use mathlib.Core.Path.{_≡_, refl, sym, ap, ap₂, _∙_}
-use mathlib.Core.Option.{Option, none, some}
+use mathlib.Core.Path.{_≡_, refl, sym, ap, _∙_}
+use mathlib.Core.Option.{Option}
 use Prim.Native.Nat.{ℕ, zero, suc, _+_, _<_, _≤_}
 use native.Mathlib.Nat.{not-suc-le-zero, le-of-suc-le-suc}
 use native.Mathlib.Omega.{arith}
@@ -13,14 +13,12 @@ use Rattle.rules.specs.Map.{Map, find, alter}
 use Rattle.rules.specs.Order.{orderBytes}
 use Rattle.rules.specs.Replica.{Id, Tree, Document, Replica, treeIn, documentOf, treeOf, revisionsHeld}
 use Rattle.rules.specs.Write.{Write, gives, addAll, next, added}
-use Rattle.tree.specs.declared.table.Found.{Found}
 use Rattle.tree.specs.declared.table.Found.the-variants.{At, Gap}
 use Rattle.tree.specs.Table.{insertAt}
-use Rattle.store.specs.Storage.{replicaOf}
 use Rattle.store.specs.Documents.{documentsOf, documentAt, placeOfId, HasDocument}
 use Rattle.store.specs.Change.{modify, blank, setSeq, setTree, withDocument, withSeq, withTree, Holds}
 use Rattle.store.proofs.TableLaws.{length-insert}
-use Rattle.store.proofs.PlaceLaws.{IsAt, IsGap, id-found, id-gap}
+use Rattle.store.proofs.PlaceLaws.{id-found, id-gap}
 use Rattle.store.proofs.RowChangeLaws.{modify-twice}
 
 -- a change sees only what was found

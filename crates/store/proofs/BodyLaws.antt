@@ -1,30 +1,27 @@
 -- A document's rows are its tree. Assumes nothing.
-use mathlib.Core.Path.{_≡_, refl, sym, ap, ap₂, _∙_}
-use mathlib.Core.Option.{Option, none, some}
+use mathlib.Core.Path.{_≡_, refl, sym, ap, _∙_}
 use Prim.Native.Nat.{ℕ, zero, suc, _+_, _*_, _<_, _≤_, _-_}
 use native.Mathlib.Nat.{not-suc-le-zero, le-of-suc-le-suc}
 use native.Mathlib.Omega.{arith}
 use mathlib.Core.List.{List, [], _∷_, _++_, map, append-assoc}
-use lib.ListN.{length, take, drop, getD, replicate}
+use lib.ListN.{length, take, drop, replicate}
 use lib.Seq.{drop-at, drop-drop}
 use Rattle.rules.specs.declared.Revision.{Revision}
 use Rattle.rules.specs.Bytes.{pieces, join}
 use Rattle.rules.specs.Image.{rowSize, rowBytes, rowOf, nodeIn}
 use Rattle.rules.specs.Map.{Map}
-use Rattle.rules.specs.Replica.{Id, Node, Tree, Document, Replica, treeOf, treeIn, documentOf, revisionsHeld}
+use Rattle.rules.specs.Replica.{Id, Node, Document, Replica, treeOf, documentOf, revisionsHeld}
 use Rattle.rules.specs.Room.{documentsMost, revisionsMost}
 use Rattle.rules.proofs.ByteLaws.{length-join, pieces-join, join-append}
-use Rattle.tree.specs.declared.table.Found.{Found}
 use Rattle.tree.specs.declared.table.Found.the-variants.{At, Gap}
 use Rattle.tree.specs.Rows.{FitsRow}
 use Rattle.tree.specs.Table.{treeAt}
-use Rattle.tree.proofs.RowLaws.{row-back}
 use Rattle.store.specs.declared.read.Body.{Body}
 use Rattle.store.specs.Storage.{rowsRoom, rowsPlace, storeSize, filled, rowsIn, storedRows, stored, replicaOf, All, FitsDocument, Storable, Laid}
-use Rattle.store.specs.Documents.{documentsOf, noDocument, documentAt, firstRow, rowPlace, placeOfId, HasDocument, IsBody, Shows, IsBodyOf}
+use Rattle.store.specs.Documents.{documentsOf, documentAt, firstRow, rowPlace, placeOfId, IsBody, Shows, IsBodyOf}
 use Rattle.store.proofs.StoredLaws.{length-map, map-append, length-rowsIn, rows-sized, fit-rows, past-contents, tree-back}
-use Rattle.store.proofs.EntryLaws.{document-fits, Standing, standing, EntryHeld, entry-held}
-use Rattle.store.proofs.PlaceLaws.{IsAt, IsGap, id-found, id-gap}
+use Rattle.store.proofs.EntryLaws.{document-fits, standing, entry-held}
+use Rattle.store.proofs.PlaceLaws.{id-found, id-gap}
 
 -- the rows before a document, its own, and those after it
 pub rows-split : (ds : Map Id Document) (d : ℕ) → d < length ds → rowsIn ds ≡ rowsIn (take d ds) ++ (documentAt ds d .1 .tree ++ rowsIn (drop (suc d) ds))

@@ -1,5 +1,5 @@
 -- Each public function has one outcome. Assumes nothing.
-use mathlib.Core.Path.{_≡_, refl, sym, ap, _∙_}
+use mathlib.Core.Path.{_≡_, refl}
 use mathlib.Core.List.{List}
 use Prim.Native.Nat.{ℕ}
 use Rattle.rules.specs.Outcome.{OneOutcome, OneOutcomeBy, nothing, fixed}
@@ -75,5 +75,5 @@ pub add-document-outcome : OneOutcome _ add-document.ps add-document.r add-docum
 add-document-outcome κs a x y s t h p q = (refl, fixed (p .bytes) (q .bytes))
 
 pub learn-row-outcome : OneOutcome _ learn-row.ps learn-row.r learn-row'.Asked learn-row'.Learnt (λ κs s. s .0 .now)
-learn-row-outcome κs a x y s t h p q = 
+learn-row-outcome κs a x y s t h p q =
     let e = fixed (p .holds .bytes) (q .holds .bytes) in (one-body (rw e at (p .body)) (q .body), e)

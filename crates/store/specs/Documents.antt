@@ -1,12 +1,12 @@
 -- The documents in a buffer, by their index, and what a caller shows to name one.
 use mathlib.Core.Path.{_≡_}
 use mathlib.Core.List.{List, [], _∷_}
-use Prim.Native.Nat.{ℕ, zero, suc, _+_, _*_, _<_, _≤_}
+use Prim.Native.Nat.{ℕ, suc, _+_, _*_, _<_, _≤_}
 use lib.ListN.{length, getD, take}
 use Rattle.rules.specs.Image.{headSize, entrySize, rowSize}
 use Rattle.rules.specs.Map.{Map, byOrder}
 use Rattle.rules.specs.Order.{orderBytes}
-use Rattle.rules.specs.Replica.{Id, Tree, Document, Replica, treeOf, revisionsHeld}
+use Rattle.rules.specs.Replica.{Id, Tree, Document, treeOf, revisionsHeld}
 use Rattle.tree.specs.declared.table.Found.{Found}
 use Rattle.tree.specs.declared.table.Found.the-variants.{At, Gap}
 use Rattle.tree.specs.Table.{treeAt}

@@ -1,7 +1,13 @@
 // What a replica in a buffer holds.
+use crate::COUNT_IN;
+use crate::DOCUMENTS_AT;
 use crate::ENTRY;
 use crate::HEAD;
+use crate::OWN_IN;
+use crate::REVISIONS_AT;
+use crate::ROW;
 use crate::ROWS;
+use crate::SEQUENCE_AT;
 use octets::number::get2;
 use octets::number::get4;
 use octets::order::order_bytes;
@@ -26,21 +32,21 @@ pub fn documents_held(b: &[u8]) -> usize
     requires { ⌜ Laid (now b) ⌝ }
     ensures { λ r. ⌜ r ≡ length (documentsOf (now (b .entry))) ⌝ }
 {
-    get2(b, 2)
+    get2(b, DOCUMENTS_AT)
 }
 
 pub fn revisions_held(b: &[u8]) -> usize
     requires { ⌜ Laid (now b) ⌝ }
     ensures { λ r. ⌜ r ≡ revisionsHeld (documentsOf (now (b .entry))) ⌝ }
 {
-    get2(b, 4)
+    get2(b, REVISIONS_AT)
 }
 
 pub fn update_sequence(b: &[u8]) -> Seq
     requires { ⌜ Laid (now b) ⌝ }
     ensures { λ r. ⌜ r ≡ replicaOf (now (b .entry)) .seq ⌝ }
 {
-    Seq(get4(b, 8))
+    Seq(get4(b, SEQUENCE_AT))
 }
 
 // Where the entry of document d begins.
@@ -56,7 +62,7 @@ pub fn own_sequence(b: &[u8], d: usize) -> Seq
     requires { ⌜ HasDocument (now b) d ⌝ }
     ensures { λ r. ⌜ r ≡ documentAt (documentsOf (now (b .entry))) d .1 .seq ⌝ }
 {
-    Seq(get4(b, entry_place(d) + 36))
+    Seq(get4(b, entry_place(d) + OWN_IN))
 }
 
 // How many revisions document d has.
@@ -64,7 +70,7 @@ pub fn row_count(b: &[u8], d: usize) -> usize
     requires { ⌜ HasDocument (now b) d ⌝ }
     ensures { λ r. ⌜ r ≡ length (documentAt (documentsOf (now (b .entry))) d .1 .tree) ⌝ }
 {
-    get2(b, entry_place(d) + 34)
+    get2(b, entry_place(d) + COUNT_IN)
 }
 
 // The index of document d's first row.
@@ -123,7 +129,7 @@ pub fn body_of(b: &[u8], d: usize) -> Body
     let first = first_row(b, d);
     let rows = row_count(b, d);
     Body {
-        base: ROWS + first * 48,
+        base: ROWS + first * ROW,
         rows,
     }
 }
