@@ -1,9 +1,10 @@
 -- Changes: the first document after a sequence, found from the last document down, and the call's outcomes. Assumes nothing.
-use mathlib.Core.Path.{_≡_, refl, sym, ap, _∙_}
+use mathlib.Core.Path.{_≡_, refl, sym, ap, ap₂, _∙_}
 use mathlib.Core.Bool.{Bool, true, false, _&&_}
 use mathlib.Core.List.{List, [], _∷_}
+use mathlib.Core.Logic.{inl, inr}
 use mathlib.Core.Option.{some}
-use Prim.Native.Nat.{ℕ, _+_, _≤_, _<_}
+use Prim.Native.Nat.{ℕ, zero, suc, _+_, _≤_, _<_}
 use native.Mathlib.Numerals.{add-one}
 use native.Mathlib.Omega.{arith}
 use borrow.Author.Tests.{lt-ltb, le-ltb, le-leb, lt-leb}
@@ -15,13 +16,17 @@ use Rattle.rules.specs.declared.Changes.the-variants as changed
 use Rattle.rules.specs.declared.Refusal.the-variants.{ShortBuffer}
 use Rattle.rules.specs.declared.Seq.{Seq}
 use Rattle.rules.specs.Choice.{pick}
-use Rattle.rules.specs.Map.{Map}
+use Rattle.rules.specs.Map.{Map, Ascending}
+use Rattle.rules.specs.Order.{orderBytes}
 use Rattle.rules.specs.Outcome.{Does}
 use Rattle.rules.specs.Read.{leaves, insertBySeq, documentsAfter, changeOf, firstOf, readChanges}
 use Rattle.rules.specs.Replica.{Id, Document}
+use Rattle.rules.specs.Union.{In}
 use Rattle.rules.proofs.MapLaws.{none≢some, some-inj}
+use Rattle.rules.proofs.OrderLaws.{bytesOrder, no-less-self}
+use Rattle.union.proofs.Count.{below-all}
 use Rattle.octets.specs.Splice.{splice}
-use Rattle.store.specs.Storage.{replicaOf}
+use Rattle.store.specs.Storage.{replicaOf, IsStored}
 use Rattle.store.specs.Documents.{documentsOf, noDocument, documentAt}
 use Rattle.reads.specs.declared.replica.Next.{Next}
 use Rattle.reads.specs.declared.replica.Next.the-variants.{Nobody, At}
@@ -138,3 +143,30 @@ module _ (s : List ℕ) (d : ℕ) (id out : List ℕ) (same : id ≡ documentAt 
       lend-answers changed.Refused (changed.Next (changeOf x′)) (x′ .0) out
       (changed.Next (record { «id_len» = n; seq = q; leaves = k; deleted = gone })) after (rw same at l)
       (λ i. changed.Next (record { «id_len» = z i; seq = eq i; leaves = ek i; deleted = eg i })) (rw same at w)
+
+-- ---- there is one such document
+
+pub in-at : (ds : Map Id Document) (d : ℕ) → d < length ds → In (documentAt ds d) ds
+unfolding documentAt
+in-at [] d h = absurd (omega arith)
+in-at (x ∷ ds) zero h = inl refl
+in-at (x ∷ ds) (suc d) h = inr (in-at ds d (omega arith))
+
+-- its index is that of its id
+at-once : (ds : Map Id Document) → Ascending orderBytes ds → (d e : ℕ) → d < length ds → e < length ds → documentAt ds d .0 ≡ documentAt ds e .0 → d ≡ e
+unfolding documentAt
+at-once [] a d e h k q = absurd (omega arith)
+at-once (x ∷ ds) a zero zero h k q = refl
+at-once (x ∷ ds) a zero (suc e) h k q = absurd (no-less-self bytesOrder (x .0) (rw (sym q) at (below-all bytesOrder (x .0) ds (a .0) (a .1) (documentAt ds e) (in-at ds e (omega arith)))))
+at-once (x ∷ ds) a (suc d) zero h k q = absurd (no-less-self bytesOrder (x .0) (rw q at (below-all bytesOrder (x .0) ds (a .0) (a .1) (documentAt ds d) (in-at ds d (omega arith)))))
+at-once (x ∷ ds) a (suc d) (suc e) h k q = ap suc (at-once ds (a .1) d e (omega arith) (omega arith) q)
+
+pub one-next : (after : Seq) (s : List ℕ) → IsStored s → (m n : Next) → IsNext after 0 (documentsOf s) m → IsNext after 0 (documentsOf s) n → m ≡ n
+one-next after s k Nobody Nobody p q = refl
+one-next after s k Nobody (At e y) p q = absurd (none≢some (sym (ap firstOf p) ∙ q .1))
+one-next after s k (At d x) Nobody p q = absurd (none≢some (sym (ap firstOf q) ∙ p .1))
+one-next after s k (At d x) (At e y) p q =
+    let f : documentAt (documentsOf s) d ≡ documentAt (documentsOf s) e = some-inj (sym (p .1) ∙ q .1) in
+    ap₂ At
+    (at-once (documentsOf s) (k .replica .ascending) d e (p .0) (q .0) (ap (λ (z : Id × Document). z .0) f))
+    (p .2 ∙ (ap (λ (z : Id × Document). z .1 .seq) f ∙ sym (q .2)))

@@ -9,6 +9,9 @@ use Rattle.reads.proofs.document.path.Kinds as path
 use Rattle.reads.proofs.document.path.Reads as path'
 use Rattle.reads.proofs.document.missing.Kinds as missing
 use Rattle.reads.proofs.document.missing.Reads as missing'
+use Rattle.reads.proofs.NextLaws.{one-next}
+use Rattle.reads.proofs.replica.next_after.Kinds as next-after
+use Rattle.reads.proofs.replica.next_after.Reads as next-after'
 use Rattle.reads.proofs.replica.changes.Kinds as changes
 use Rattle.reads.proofs.replica.changes.Reads as changes'
 use Rattle.reads.proofs.replica.sequence.Kinds as sequence
@@ -27,6 +30,9 @@ path-outcome κs a x y s t h p q = does-one p q
 
 pub missing-outcome : OneOutcome _ missing.ps missing.r missing'.Asked missing'.Learnt (λ κs s. s .1 .1 .1 .0 .now)
 missing-outcome κs a x y s t h p q = does-one p q
+
+pub next-after-outcome : OneOutcome _ next-after.ps next-after.r next-after'.Asked next-after'.Learnt nothing
+next-after-outcome κs a x y s t h p q = (one-next (a .1 .0) (a .0 .now) h x y p q, refl)
 
 pub changes-outcome : OneOutcome _ changes.ps changes.r changes'.Asked changes'.Learnt (λ κs s. s .1 .1 .0 .now)
 changes-outcome κs a x y s t h p q = does-one p q

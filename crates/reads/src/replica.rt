@@ -26,7 +26,7 @@ ghost use Rattle.reads.specs.Reads.{CanRead};
 ghost use Rattle.reads.specs.Next.{sooner, IsNext, HasTree, changeRead, deletionWins};
 
 // A document and its own sequence, or none.
-enum Next {
+pub enum Next {
     Nobody,
     At(usize, Seq),
 }
@@ -52,7 +52,7 @@ fn earlier(after: Seq, d: usize, q: Seq, found: Next) -> Next
 }
 
 // The document with the lowest own sequence above `after`.
-fn next_after(b: &[u8], after: Seq) -> Next
+pub fn next_after(b: &[u8], after: Seq) -> Next
     requires { ⌜ IsStored (now b) ⌝ }
     ensures { λ r. ⌜ IsNext after 0 (replicaOf (now (b .entry)) .documents) r ⌝ }
 {
