@@ -1,0 +1,4 @@
+-- Laws of the report.
+pub mod LengthLaws
+pub mod WinnerLaws
+pub mod FaultLaws

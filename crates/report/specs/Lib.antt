@@ -1,0 +1,1 @@
+-- What the promises of this crate's helpers cite.

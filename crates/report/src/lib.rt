@@ -1,0 +1,1 @@
+// Report: what the check program prints for the bytes of an image.
