@@ -1,18 +1,20 @@
 -- How a loop over bytes meets the order and the test for zeros. Assumes nothing.
-use mathlib.Core.Path.{_≡_, refl, ap, _∙_}
+use mathlib.Core.Path.{_≡_, refl, sym, ap, _∙_}
 use mathlib.Core.Bool.{true, false}
-use mathlib.Core.List.{List}
-use Prim.Native.Nat.{ℕ, _+_, _≤_, _<_}
+use mathlib.Core.List.{List, [], _∷_, _++_}
+use Prim.Native.Nat.{ℕ, _+_, _*_, _≤_, _<_}
 use native.Mathlib.Numerals.{add-one}
 use native.Mathlib.Omega.{arith}
 use lib.ListN.{length, getD, drop, drop-of-length-le}
-use lib.Seq.{drop-cons}
+use lib.Seq.{drop-cons, drop-drop, take-add}
 use borrow.Author.Tests.{eq-eqb, ne-eqb}
 use Rattle.rules.specs.declared.Order.{Order}
 use Rattle.rules.specs.declared.Order.the-variants.{Less, Equal, Greater}
 use Rattle.rules.specs.Order.{orderN, andThen, orderBytes, isEqual}
+use Rattle.rules.specs.Bytes.{value, valueFrom, part, Bytes}
 use Rattle.rules.specs.Image.{allZero}
-use Rattle.rules.proofs.OrderLaws.{orderN-same, orderN-self, orderN-less, less-orderN, orderBytes-same}
+use Rattle.rules.proofs.ByteLaws.{length-part}
+use Rattle.rules.proofs.OrderLaws.{orderN-same, orderN-self, orderN-less, less-orderN, orderN-turn, orderBytes-same}
 
 pub greater-orderN : (a b : ℕ) → b < a → orderN a b ≡ Greater
 greater-orderN a b h = go (orderN a b) refl
@@ -53,6 +55,68 @@ module _ (a b : List ℕ) (i : ℕ) (h : i < length a) (k : i < length b) where
 
   pub order-next : getD a i 0 ≡ getD b i 0 → orderBytes (drop i a) (drop i b) ≡ orderBytes (drop (i + 1) a) (drop (i + 1) b)
   order-next p = order-step a b i h k ∙ rw (equal-orderN (getD a i 0) (getD b i 0) p)
+
+-- ---- bytes that are as many compare as the numbers that they are
+
+from-less : (v w : ℕ) (a b : List ℕ) → v < w → length a ≡ length b → Bytes a → Bytes b → valueFrom v a < valueFrom w b
+unfolding valueFrom
+from-less v w [] [] h e p q = h
+from-less v w [] (y ∷ b) h e p q = absurd (omega arith)
+from-less v w (x ∷ a) [] h e p q = absurd (omega arith)
+from-less v w (x ∷ a) (y ∷ b) h e p q =
+    let k = p .0 in from-less (v * 256 + x) (w * 256 + y) a b (omega arith) (omega arith) (p .1) (q .1)
+
+from-order : (v : ℕ) (a b : List ℕ) → length a ≡ length b → Bytes a → Bytes b → orderN (valueFrom v a) (valueFrom v b) ≡ orderBytes a b
+unfolding valueFrom orderBytes
+from-order v [] [] e p q = orderN-self v
+from-order v [] (y ∷ b) e p q = absurd (omega arith)
+from-order v (x ∷ a) [] e p q = absurd (omega arith)
+from-order v (x ∷ a) (y ∷ b) e p q = go (orderN x y) refl (λ w. from-order w a b (omega arith) (p .1) (q .1))
+  where
+    n : length a ≡ length b
+    n = omega arith
+
+    go : (o : Order) → orderN x y ≡ o → ((w : ℕ) → orderN (valueFrom w a) (valueFrom w b) ≡ orderBytes a b)
+        → orderN (valueFrom (v * 256 + x) a) (valueFrom (v * 256 + y) b) ≡ andThen o (orderBytes a b)
+    go Less o ih =
+        let h = orderN-less x y o in
+        less-orderN _ _ (from-less (v * 256 + x) (v * 256 + y) a b (omega arith) n (p .1) (q .1))
+    go Equal o ih = rw (orderN-same x y o) (ih (v * 256 + y))
+    go Greater o ih =
+        let h = orderN-less y x (orderN-turn x y o) in
+        greater-orderN _ _ (from-less (v * 256 + y) (v * 256 + x) b a (omega arith) (sym n) (q .1) (p .1))
+
+pub order-value : (a b : List ℕ) → length a ≡ length b → Bytes a → Bytes b → orderN (value a) (value b) ≡ orderBytes a b
+unfolding value
+order-value a b e p q = from-order 0 a b e p q
+
+-- the first runs decide, and where they are the same the second
+pub order-append : (a b c d : List ℕ) → length a ≡ length b → orderBytes (a ++ c) (b ++ d) ≡ andThen (orderBytes a b) (orderBytes c d)
+unfolding orderBytes
+order-append [] [] c d e = refl
+order-append [] (y ∷ b) c d e = absurd (omega arith)
+order-append (x ∷ a) [] c d e = absurd (omega arith)
+order-append (x ∷ a) (y ∷ b) c d e = go (orderN x y) (order-append a b c d (omega arith))
+  where
+    go : (o : Order) → orderBytes (a ++ c) (b ++ d) ≡ andThen (orderBytes a b) (orderBytes c d)
+        → andThen o (orderBytes (a ++ c) (b ++ d)) ≡ andThen (andThen o (orderBytes a b)) (orderBytes c d)
+    go Less h = refl
+    go Equal h = h
+    go Greater h = refl
+
+halves : (s : List ℕ) (at n : ℕ) → part at (n + n) s ≡ part at n s ++ part (at + n) n s
+unfolding part
+halves s at n = take-add n n (drop at s) ∙ rw (drop-drop n at s)
+
+-- two runs, each of twice k bytes: the first halves decide by their numbers, else the second halves
+pub order-halves : (a b : List ℕ) (p q k : ℕ) → p + (k + k) ≤ length a → q + (k + k) ≤ length b → Bytes (part p k a) → Bytes (part q k b)
+    → orderBytes (part p (k + k) a) (part q (k + k) b)
+    ≡ andThen (orderN (value (part p k a)) (value (part q k b))) (orderBytes (part (p + k) k a) (part (q + k) k b))
+order-halves a b p q k h i x y =
+    let la = length-part p k a (omega arith) in
+    let lb = length-part q k b (omega arith) in
+    let e : length (part p k a) ≡ length (part q k b) = omega arith in
+    rw (halves a p k, halves b q k, order-append (part p k a) (part q k b) (part (p + k) k a) (part (q + k) k b) e, order-value (part p k a) (part q k b) e x y)
 
 -- ---- sameness
 

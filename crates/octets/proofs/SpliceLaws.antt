@@ -37,6 +37,25 @@ splice-splice s at a b h =
     = rw (sym (append-assoc (take at s) a rest)) (take-at (take at s ++ a) rest (at + length a) n) in
     rw (t, e) (simp (length-append, append-assoc, add-assoc))
 
+-- the same, where the second's place is known by an equation
+pub chain : (s a b : List ℕ) (at i : ℕ) → at + length a ≡ i → i + length b ≤ length s → splice (splice s at a) i b ≡ splice s at (a ++ b)
+chain s a b at i e h = rw (sym e) (splice-splice s at a b (omega arith))
+
+-- five runs, one after the other
+pub five : (s a b c d e : List ℕ) (at i j k m : ℕ) → at + length a ≡ i → i + length b ≡ j → j + length c ≡ k → k + length d ≡ m → m + length e ≤ length s
+    → splice (splice (splice (splice (splice s at a) i b) j c) k d) m e ≡ splice s at (a ++ (b ++ (c ++ (d ++ e))))
+five s a b c d e at i j k m p q r t h =
+    let s1 : List ℕ = splice s at a in
+    let s2 : List ℕ = splice s1 i b in
+    let s3 : List ℕ = splice s2 j c in
+    let n1 : length s1 ≡ length s = length-splice s at a (omega arith) in
+    let n2 : length s2 ≡ length s = length-splice s1 i b (omega arith) ∙ n1 in
+    let n3 : length s3 ≡ length s = length-splice s2 j c (omega arith) ∙ n2 in
+    chain s3 d e k m t (omega arith)
+    ∙ (chain s2 c (d ++ e) j k r (simp length-append (omega arith))
+    ∙ (chain s1 b (c ++ (d ++ e)) i j q (simp length-append (omega arith))
+    ∙ chain s a (b ++ (c ++ (d ++ e))) at i p (simp length-append (omega arith))))
+
 -- a run is replaced by one as long
 pub replace : (A X B Y : List ℕ) (p : ℕ) → length A ≡ p → length X ≡ length Y → splice (A ++ (X ++ B)) p Y ≡ A ++ (Y ++ B)
 unfolding splice

@@ -4,7 +4,7 @@ ghost use Prim.Native.Nat.{ℕ, _+_, _<_, _≤_};
 ghost use lib.ListN.{length};
 ghost use Rattle.rules.specs.Bytes.{be};
 ghost use Rattle.octets.specs.Splice.{splice};
-ghost use Rattle.octets.specs.Octets.{IsNumber};
+ghost use Rattle.octets.specs.Octets.{IsNumber, NumberPut};
 
 // Bytes are widened by calls, so that each carries its own bound.
 fn wide(b: u8) -> u32
@@ -61,7 +61,7 @@ pub fn put2(s: &mut [u8], at: usize, v: usize)
 // Writes a number's four bytes.
 pub fn put4(s: &mut [u8], at: usize, v: u32)
     requires { ⌜ at + 4 ≤ length (now s) ⌝ }
-    ensures { λ _. ⌜ now (s .exit) ≡ splice (now (s .entry)) at (be 4 v) ⌝ }
+    ensures { λ _. ⌜ NumberPut 4 4294967296 (now (s .entry)) at v (now (s .exit)) ⌝ }
 {
     s[at] = (v / 16777216) as u8;
     s[at + 1] = (v / 65536 % 256) as u8;
@@ -72,7 +72,7 @@ pub fn put4(s: &mut [u8], at: usize, v: u32)
 // Writes a number's eight bytes.
 pub fn put8(s: &mut [u8], at: usize, v: u64)
     requires { ⌜ at + 8 ≤ length (now s) ⌝ }
-    ensures { λ _. ⌜ now (s .exit) ≡ splice (now (s .entry)) at (be 8 v) ⌝ }
+    ensures { λ _. ⌜ NumberPut 8 18446744073709551616 (now (s .entry)) at v (now (s .exit)) ⌝ }
 {
     put4(s, at, (v / 4294967296) as u32);
     put4(s, at + 4, (v % 4294967296) as u32);

@@ -1,7 +1,11 @@
 // Runs of bytes compared.
+use crate::number::get8;
 use rules::Order;
 ghost use mathlib.Core.Path.{_≡_};
-ghost use Rattle.rules.specs.Order.{orderBytes, isEqual};
+ghost use Prim.Native.Nat.{_+_, _≤_};
+ghost use lib.ListN.{length};
+ghost use Rattle.rules.specs.Bytes.{part};
+ghost use Rattle.rules.specs.Order.{orderN, orderBytes, isEqual};
 ghost use Rattle.rules.specs.Image.{allZero};
 
 // Byte by byte, a prefix first.
@@ -27,6 +31,50 @@ pub fn order_bytes(a: &[u8], b: &[u8]) -> Order
     Order::Equal
 }
 
+// Sixteen bytes of each, as two numbers of eight: that goes by words, and the order is the same.
+fn order_parts(a: &[u8], p: usize, b: &[u8], q: usize) -> Order
+    requires { ⌜ (p + 16 ≤ length (now a)) × (q + 16 ≤ length (now b)) ⌝ }
+    ensures { λ r. ⌜ r ≡ orderBytes (part p 16 (now (a .entry))) (part q 16 (now (b .entry))) ⌝ }
+{
+    let x = get8(a, p);
+    let y = get8(b, q);
+    if x < y {
+        return Order::Less;
+    }
+    if y < x {
+        return Order::Greater;
+    }
+    order_word(get8(a, p + 8), get8(b, q + 8))
+}
+
+fn order_word(x: u64, y: u64) -> Order
+    ensures { λ r. ⌜ r ≡ orderN x y ⌝ }
+{
+    if x < y {
+        return Order::Less;
+    }
+    if y < x {
+        return Order::Greater;
+    }
+    Order::Equal
+}
+
+// Two hashes, "first byte first".
+pub fn order_hashes(g: [u8; 16], h: [u8; 16]) -> Order
+    ensures { λ r. ⌜ r ≡ orderBytes g h ⌝ }
+{
+    order_parts(&g, 0, &h, 0)
+}
+
+// A hash with the one that stands at `at`.
+pub fn order_hash_at(h: [u8; 16], s: &[u8], at: usize) -> Order
+    requires { ⌜ at + 16 ≤ length (now s) ⌝ }
+    ensures { λ r. ⌜ r ≡ orderBytes h (part at 16 (now (s .entry))) ⌝ }
+{
+    order_parts(&h, 0, s, at)
+}
+
+// Whether two runs are the same.
 pub fn same_bytes(a: &[u8], b: &[u8]) -> bool
     ensures { λ r. ⌜ r ≡ isEqual (orderBytes (now (a .entry)) (now (b .entry))) ⌝ }
 {
@@ -43,6 +91,7 @@ pub fn same_bytes(a: &[u8], b: &[u8]) -> bool
     true
 }
 
+// Whether every byte is zero.
 pub fn all_zero(s: &[u8]) -> bool
     ensures { λ r. ⌜ r ≡ allZero (now (s .entry)) ⌝ }
 {

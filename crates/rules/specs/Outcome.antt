@@ -11,6 +11,21 @@ use borrow.Fn.Kinds.{PK, RK, In, Out, Dens, resT, endedOf}
 -- the arguments, `learnt` what its `ensures` say of the result and of the parameters at exit, and
 -- `left` what it can leave: the contents of what was lent to it as `&mut`.
 module _ (n : ℕ) (ps : List (PK n)) (r : RK n) where
+  -- where the result is a part of what was lent, `answer` is that part's contents
+  abbrev pub OneOutcomeBy :
+      In n ps →
+      Out n ps r →
+      {Y X : Type 0} →
+      ((κs : Lfts n) → resT r κs .Denot → Y) →
+      ((κs : Lfts n) → AtExit (endedOf n ps r) κs → X) →
+      Type 0
+  OneOutcomeBy asked learnt answer left =
+      (κs : Lfts n) (a : Dens κs ps) (x y : resT r κs .Denot) (s t : AtExit (endedOf n ps r) κs)
+      → asked κs a
+      → learnt κs a x s
+      → learnt κs a y t
+      → (answer κs x ≡ answer κs y) × (left κs s ≡ left κs t)
+
   abbrev pub OneOutcome :
       In n ps → Out n ps r → {X : Type 0} → ((κs : Lfts n) → AtExit (endedOf n ps r) κs → X) → Type 0
   OneOutcome asked learnt left =

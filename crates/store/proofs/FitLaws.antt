@@ -1,7 +1,7 @@
 -- A replica can be laid out. Assumes nothing.
 use mathlib.Core.Path.{_≡_, refl, sym, ap, _∙_}
 use mathlib.Core.Option.{Option, none, some}
-use Prim.Native.Nat.{ℕ, zero, suc, _+_, _<_, _≤_, max}
+use Prim.Native.Nat.{ℕ, zero, suc, pred, _+_, _<_, _≤_, max}
 use native.Mathlib.Omega.{arith}
 use mathlib.Core.List.{List, [], _∷_}
 use lib.ListN.{length}
@@ -15,7 +15,8 @@ use Rattle.rules.specs.Replica.{Id, Node, Tree, Document, Replica, documentOf, 
 use Rattle.rules.specs.Room.{last, hashSize}
 use Rattle.rules.proofs.OrderLaws.{TotalOrder, bytesOrder, revOrder}
 use Rattle.rules.proofs.MapLaws.{none≢some, find-eq, find-gt, find-below}
-use Rattle.store.specs.Storage.{All, FitsParent, FitsContent, FitsRow, FitsDocument, Storable, Laid, IsStored}
+use Rattle.tree.specs.Rows.{FitsParent, FitsContent, FitsRow}
+use Rattle.store.specs.Storage.{All, FitsDocument, Storable, Laid, IsStored}
 
 -- what holds of all that is found holds of all that is listed
 module _ {K A : Type 0} (O : TotalOrder K) where
@@ -38,7 +39,7 @@ module _ {K A : Type 0} (O : TotalOrder K) where
 
 tree-fits : (t : Tree) → IsTree t → All FitsRow t
 tree-fits t h = all-found revOrder FitsRow t (h .ascending) (λ v n e. record {
-  number = h .revisions v (n, e) .most;
+  number = omega (arith, h .revisions v (n, e) .most);
   hash = h .revisions v (n, e) .size;
   parent = parent v n e (n .parent) refl;
   content = content v n e (n .content) refl;
@@ -48,7 +49,7 @@ tree-fits t h = all-found revOrder FitsRow t (h .ascending) (λ v n e. record {
     parent v n e none q = tt
     parent v n e (some p) q =
         let k = h .parents v p (n, e, q) in
-        (h .lower v p (n, e, q), h .revisions p k .size)
+        (ap pred (h .lower v p (n, e, q)), h .revisions p k .size)
 
     content : (v : Revision) (n : Node) → find orderRev v t ≡ some n → (c : Option Content) → n .content ≡ c → FitsContent c
     content v n e none q = tt

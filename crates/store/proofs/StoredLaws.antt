@@ -12,9 +12,12 @@ use Rattle.rules.specs.Image.{Row, Entry, Head, headSize, entrySize, rowSize, e
 use Rattle.rules.specs.Map.{Map}
 use Rattle.rules.specs.Replica.{Id, Node, Tree, Document, Replica, fresh, revisionsHeld}
 use Rattle.rules.specs.Room.{documentsMost, revisionsMost, idMost, hashSize, last}
-use Rattle.store.specs.Storage.{contentsRoom, rowsRoom, rowsPlace, storeSize, filled, storedHead, storedEntries, rowsIn, storedRows, stored, rowsHeld, replicaOf, All, FitsRow, FitsDocument, Storable, Laid}
-use Rattle.store.proofs.PieceLaws.{drop-past, Sized, length-join, pieces-join}
-use Rattle.store.proofs.RoundLaws.{length-row, row-back, length-entry, entry-fields}
+use Rattle.tree.specs.Rows.{FitsRow}
+use Rattle.store.specs.Storage.{contentsRoom, rowsRoom, rowsPlace, storeSize, filled, storedHead, storedEntries, rowsIn, storedRows, stored, rowsHeld, replicaOf, All, FitsDocument, Storable, Laid}
+use Rattle.rules.proofs.ByteLaws.{Sized, length-join, pieces-join}
+use Rattle.store.proofs.PieceLaws.{drop-past}
+use Rattle.tree.proofs.RowLaws.{length-row, row-back}
+use Rattle.store.proofs.RoundLaws.{length-entry, entry-fields}
 
 -- ---- all rows
 
@@ -40,11 +43,11 @@ unfolding rowsIn
 fit-rows [] h = tt
 fit-rows (d ∷ ds) h = fit-append (d .1 .tree) (rowsIn ds) (h .0 .rows) (fit-rows ds (h .1))
 
-pub rows-sized : (vs : List (Revision × Node)) → All FitsRow vs → All (Sized rowSize) (map rowBytes vs)
+pub rows-sized : (vs : List (Revision × Node)) → All FitsRow vs → Sized rowSize (map rowBytes vs)
 rows-sized [] h = tt
 rows-sized (v ∷ vs) h = (length-row v (h .0), rows-sized vs (h .1))
 
-pub entries-sized : (ds : Map Id Document) → All FitsDocument ds → All (Sized entrySize) (storedEntries ds)
+pub entries-sized : (ds : Map Id Document) → All FitsDocument ds → Sized entrySize (storedEntries ds)
 unfolding storedEntries
 entries-sized [] h = tt
 entries-sized (d ∷ ds) h = (length-entry d (h .0 .id), entries-sized ds (h .1))
@@ -74,7 +77,7 @@ module _ (d r q : ℕ) (T : List ℕ) where
 
 -- ---- reading all back
 
-tree-back : (t : Tree) → All FitsRow t → map nodeIn (map rowOf (map rowBytes t)) ≡ t
+pub tree-back : (t : Tree) → All FitsRow t → map nodeIn (map rowOf (map rowBytes t)) ≡ t
 tree-back [] h = refl
 tree-back (v ∷ t) h = ap₂ _∷_ (row-back v (h .0)) (tree-back t (h .1))
 
@@ -100,17 +103,17 @@ module _ (r : Replica) (h : Storable r) where
   abbrev head : List ℕ
   head = storedHead (length (r .documents)) (revisionsHeld (r .documents)) (r .seq .0)
 
-  pub size-entries : length (join (storedEntries (r .documents))) ≡ entrySize * length (r .documents)
+  pub size-entries : length (join (storedEntries (r .documents))) ≡ length (r .documents) * entrySize
   unfolding storedEntries
   size-entries =
       length-join entrySize (storedEntries (r .documents)) (entries-sized (r .documents) (h .documents))
-      ∙ ap (λ (n : ℕ). entrySize * n) (length-map (entryBytes 0) (r .documents))
+      ∙ ap (λ (n : ℕ). n * entrySize) (length-map (entryBytes 0) (r .documents))
 
-  pub size-rows : length (join (storedRows (r .documents))) ≡ rowSize * revisionsHeld (r .documents)
+  pub size-rows : length (join (storedRows (r .documents))) ≡ revisionsHeld (r .documents) * rowSize
   unfolding storedRows
   size-rows =
       length-join rowSize (storedRows (r .documents)) (rows-sized (rowsIn (r .documents)) (fit-rows (r .documents) (h .documents)))
-      ∙ ap (λ (n : ℕ). rowSize * n) (length-map rowBytes (rowsIn (r .documents)) ∙ length-rowsIn (r .documents))
+      ∙ ap (λ (n : ℕ). n * rowSize) (length-map rowBytes (rowsIn (r .documents)) ∙ length-rowsIn (r .documents))
 
   pub size-contents : length (filled contentsRoom (join (storedEntries (r .documents)))) ≡ contentsRoom
   size-contents = length-filled contentsRoom _ (omega (arith, size-entries, h .documents-most))

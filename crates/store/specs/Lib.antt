@@ -1,2 +1,4 @@
--- How a replica lies in a buffer.
+-- How a replica lies in a buffer, and what is read from it there.
 pub mod Storage
+pub mod Documents
+pub mod Change

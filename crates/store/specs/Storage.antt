@@ -1,16 +1,15 @@
 -- A replica in a buffer: its bytes to the last one, what such bytes hold, and when a replica can be laid out so.
 use mathlib.Core.Path.{_≡_}
 use mathlib.Core.List.{List, [], _∷_, _++_, map}
-use mathlib.Core.Option.{Option, none, some}
-use Prim.Native.Nat.{ℕ, zero, suc, _+_, _-_, _*_, _≤_}
+use Prim.Native.Nat.{ℕ, _+_, _-_, _*_, _≤_}
 use lib.ListN.{length, drop, replicate}
-use Rattle.rules.specs.declared.Content.{Content}
 use Rattle.rules.specs.declared.Revision.{Revision}
 use Rattle.rules.specs.Bytes.{be, pieces, join}
 use Rattle.rules.specs.Image.{Row, headSize, entrySize, rowSize, entryBytes, rowBytes, headOf, rowOf, entriesOf, deal, documentsIn}
 use Rattle.rules.specs.Map.{Map}
-use Rattle.rules.specs.Replica.{Id, Node, Document, Replica, IsContent, IsReplica, revisionsHeld}
-use Rattle.rules.specs.Room.{documentsMost, revisionsMost, idMost, hashSize, last}
+use Rattle.rules.specs.Replica.{Id, Node, Document, Replica, IsReplica, revisionsHeld}
+use Rattle.rules.specs.Room.{documentsMost, revisionsMost, idMost, last}
+use Rattle.tree.specs.Rows.{FitsRow}
 
 -- ---- the regions: a head, room for every entry, room for every row
 
@@ -70,21 +69,6 @@ replicaOf s = record {
 abbrev pub All : {A : Type 0} → (A → Type 0) → List A → Type 0
 All P [] = Unit {0}
 All P (x ∷ xs) = P x × All P xs
-
--- a parent's number is not kept, since it is one lower
-abbrev pub FitsParent : Revision → Option Revision → Type 0
-FitsParent v none = Unit {0}
-FitsParent v (some p) = (suc (p .number .0) ≡ v .number .0) × (length (p .hash) ≡ hashSize)
-
-abbrev pub FitsContent : Option Content → Type 0
-FitsContent none = Unit {0}
-FitsContent (some c) = IsContent c
-
-pub record FitsRow (v : Revision × Node) : Type 0 where
-  pub number : v .0 .number .0 ≤ last
-  pub hash : length (v .0 .hash) ≡ hashSize
-  pub parent : FitsParent (v .0) (v .1 .parent)
-  pub content : FitsContent (v .1 .content)
 
 pub record FitsDocument (d : Id × Document) : Type 0 where
   pub id : length (d .0) ≤ idMost

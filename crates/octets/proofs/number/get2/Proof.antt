@@ -1,7 +1,7 @@
 -- `number::get2` meets its contract. Assumes nothing.
 use native.Mathlib.Omega.{arith}
 use borrow.Author.Needs.{needs}
-use Rattle.octets.proofs.NumberLaws.{value-two}
+use Rattle.octets.proofs.NumberLaws.{bytes-two, value-two}
 use Rattle.octets.proofs.number.get2.Statement.{statement}
 use Rattle.octets.proofs.number.get2.Tie as tie
 
@@ -30,7 +30,7 @@ returns : tie.Need-returns
 returns c =
     let a = (c .before .before .before .before .before) .args in
     let v = value-two (a .s .now) (a .at) (omega arith) in
-    record { is = omega arith; small = omega arith }
+    record { is = omega arith; small = omega arith; bytes = bytes-two (a .s .now) (a .at) (omega arith) (omega arith) (omega arith) }
 
 pub get2-spec : {M : Type 1} → statement M
 get2-spec =

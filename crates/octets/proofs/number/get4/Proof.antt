@@ -1,7 +1,7 @@
 -- `number::get4` meets its contract. Assumes nothing.
 use native.Mathlib.Omega.{arith}
 use borrow.Author.Needs.{needs}
-use Rattle.octets.proofs.NumberLaws.{value-four}
+use Rattle.octets.proofs.NumberLaws.{bytes-four, value-four}
 use Rattle.octets.proofs.number.get4.Statement.{statement}
 use Rattle.octets.proofs.number.get4.Tie as tie
 
@@ -60,7 +60,11 @@ returns : tie.Need-returns
 returns c =
     let a = (c .before .before .before .before .before .before .before .before .before) .args in
     let v = value-four (a .s .now) (a .at) (omega arith) in
-    record { is = omega arith; small = omega arith }
+    record {
+      is = omega arith;
+      small = omega arith;
+      bytes = bytes-four (a .s .now) (a .at) (omega arith) (omega arith) (omega arith) (omega arith) (omega arith);
+    }
 
 pub get4-spec : {M : Type 1} → statement M
 get4-spec =

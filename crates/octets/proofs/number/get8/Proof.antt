@@ -1,7 +1,7 @@
 -- `number::get8` meets its contract. Assumes nothing.
 use native.Mathlib.Omega.{arith}
 use borrow.Author.Needs.{needs}
-use Rattle.octets.proofs.NumberLaws.{value-eight}
+use Rattle.octets.proofs.NumberLaws.{bytes-both, value-eight}
 use Rattle.octets.proofs.number.get8.Statement.{statement}
 use Rattle.octets.proofs.number.get8.Tie as tie
 
@@ -30,7 +30,11 @@ returns : tie.Need-returns
 returns c =
     let a = (c .before .before .before .before .before) .args in
     let v = value-eight (a .s .now) (a .at) (omega arith) in
-    record { is = omega arith; small = omega arith }
+    record {
+      is = omega arith;
+      small = omega arith;
+      bytes = bytes-both (a .s .now) (a .at) 4 ((c .before .before .before .get4) .ensures .bytes) ((c .before .get42) .ensures .bytes);
+    }
 
 pub get8-spec : {M : Type 1} → statement M
 get8-spec =

@@ -46,7 +46,7 @@ same-length c = search needs
 returns : tie.Need-returns
 returns c =
     let a = c .args in
-    four-stores (now (a .s)) (a .at) (a .v) (omega arith) (omega arith)
+    record { is = four-stores (now (a .s)) (a .at) (a .v) (omega arith) (omega arith); small = omega arith }
 
 pub put4-spec : {M : Type 1} → statement M
 put4-spec =

@@ -1,14 +1,16 @@
 -- `number::put8` meets its contract. Assumes nothing.
-use Prim.Native.Nat.{_%_, _/_}
+use mathlib.Core.Path.{_∙_, ap}
+use Prim.Native.Nat.{_%_, _+_, _/_}
 use native.Mathlib.Omega.{arith}
 use denote.Ref.{now}
 use borrow.Author.Needs.{needs}
-use Rattle.rules.specs.Bytes.{be}
 use Rattle.rules.proofs.ByteLaws.{length-be}
+use Rattle.rules.specs.Bytes.{be}
 use Rattle.octets.proofs.NumberLaws.{eight-bytes}
 use Rattle.octets.proofs.SpliceLaws.{splice-splice}
 use Rattle.octets.proofs.number.put8.Statement.{statement}
 use Rattle.octets.proofs.number.put8.Tie as tie
+use Rattle.octets.specs.Splice.{splice}
 
 cast-put4 : tie.Need-cast-put4
 cast-put4 c = search needs
@@ -34,7 +36,7 @@ returns c =
     let n = length-be 4 (a .v / 4294967296) in
     let m = length-be 4 (a .v % 4294967296) in
     let w = splice-splice (now (a .s)) (a .at) (be 4 (a .v / 4294967296)) (be 4 (a .v % 4294967296)) (omega arith) in
-    rw (eight-bytes (a .v)) (cc (rw n at w))
+    record { is = rw (eight-bytes (a .v)) ((c .before .before .put42) .ensures .is ∙ (ap (λ l. splice l (a .at + 4) (be 4 (a .v % 4294967296))) ((c .before .before .before .before .before .before .put4) .ensures .is) ∙ rw n at w)); small = omega arith }
 
 pub put8-spec : {M : Type 1} → statement M
 put8-spec =

@@ -1,0 +1,111 @@
+-- A document's rows are its tree. Assumes nothing.
+use mathlib.Core.Path.{_≡_, refl, sym, ap, ap₂, _∙_}
+use mathlib.Core.Option.{Option, none, some}
+use Prim.Native.Nat.{ℕ, zero, suc, _+_, _*_, _<_, _≤_, _-_}
+use native.Mathlib.Nat.{not-suc-le-zero, le-of-suc-le-suc}
+use native.Mathlib.Omega.{arith}
+use mathlib.Core.List.{List, [], _∷_, _++_, map, append-assoc}
+use lib.ListN.{length, take, drop, getD, replicate}
+use lib.Seq.{drop-at, drop-drop}
+use Rattle.rules.specs.declared.Revision.{Revision}
+use Rattle.rules.specs.Bytes.{pieces, join}
+use Rattle.rules.specs.Image.{rowSize, rowBytes, rowOf, nodeIn}
+use Rattle.rules.specs.Map.{Map}
+use Rattle.rules.specs.Replica.{Id, Node, Tree, Document, Replica, treeOf, treeIn, documentOf, revisionsHeld}
+use Rattle.rules.specs.Room.{documentsMost, revisionsMost}
+use Rattle.rules.proofs.ByteLaws.{length-join, pieces-join, join-append}
+use Rattle.tree.specs.declared.table.Found.{Found}
+use Rattle.tree.specs.declared.table.Found.the-variants.{At, Gap}
+use Rattle.tree.specs.Rows.{FitsRow}
+use Rattle.tree.specs.Table.{treeAt}
+use Rattle.tree.proofs.RowLaws.{row-back}
+use Rattle.store.specs.declared.read.Body.{Body}
+use Rattle.store.specs.Storage.{rowsRoom, rowsPlace, storeSize, filled, rowsIn, storedRows, stored, replicaOf, All, FitsDocument, Storable, Laid}
+use Rattle.store.specs.Documents.{documentsOf, noDocument, documentAt, firstRow, rowPlace, placeOfId, HasDocument, IsBody, Shows}
+use Rattle.store.proofs.StoredLaws.{length-map, map-append, length-rowsIn, rows-sized, fit-rows, past-contents, tree-back}
+use Rattle.store.proofs.EntryLaws.{document-fits, Standing, standing, EntryHeld, entry-held}
+use Rattle.store.proofs.PlaceLaws.{IsAt, IsGap, id-found, id-gap}
+
+-- the rows before a document, its own, and those after it
+pub rows-split : (ds : Map Id Document) (d : ℕ) → d < length ds → rowsIn ds ≡ rowsIn (take d ds) ++ (documentAt ds d .1 .tree ++ rowsIn (drop (suc d) ds))
+unfolding rowsIn documentAt
+rows-split [] d h = absurd (not-suc-le-zero h)
+rows-split (x ∷ ds) zero h = refl
+rows-split (x ∷ ds) (suc d) h = rw (rows-split ds d (le-of-suc-le-suc h)) (sym (append-assoc (x .1 .tree) (rowsIn (take d ds)) (documentAt ds d .1 .tree ++ rowsIn (drop (suc d) ds))))
+
+all-take : {A : Type 0} (P : A → Type 0) (n : ℕ) (xs : List A) → All P xs → All P (take n xs)
+all-take P zero xs h = tt
+all-take P (suc n) [] h = tt
+all-take P (suc n) (x ∷ xs) h = (h .0, all-take P n xs (h .1))
+
+-- rows in the middle of others
+tree-middle : (a t z : List (Revision × Node)) (T : List ℕ) (n : ℕ) → All FitsRow a → All FitsRow t → n ≡ length a * rowSize
+    → map nodeIn (map rowOf (pieces (length t) rowSize (drop n (join (map rowBytes (a ++ (t ++ z))) ++ T)))) ≡ t
+tree-middle a t z T n h k e =
+    let la : length (join (map rowBytes a)) ≡ n = length-join rowSize (map rowBytes a) (rows-sized a h) ∙ (ap (λ (m : ℕ). m * rowSize) (length-map rowBytes a) ∙ sym e) in
+    let s : join (map rowBytes (a ++ (t ++ z))) ++ T ≡ join (map rowBytes a) ++ (join (map rowBytes t) ++ (join (map rowBytes z) ++ T))
+    = rw (map-append rowBytes a (t ++ z), map-append rowBytes t z, join-append (map rowBytes a) (map rowBytes t ++ map rowBytes z), join-append (map rowBytes t) (map rowBytes z)) (simp append-assoc) in
+    let p : pieces (length t) rowSize (join (map rowBytes t) ++ (join (map rowBytes z) ++ T)) ≡ map rowBytes t
+    = rw (sym (length-map rowBytes t)) (pieces-join rowSize (map rowBytes t) (join (map rowBytes z) ++ T) (rows-sized t k)) in
+    rw (s, drop-at (join (map rowBytes a)) (join (map rowBytes t) ++ (join (map rowBytes z) ++ T)) n la, p) (tree-back t k)
+
+body-stored : (r : Replica) (d : ℕ) → Storable r → d < length (r .documents)
+    → treeAt (rowPlace (firstRow (r .documents) d)) (length (documentAt (r .documents) d .1 .tree)) (stored r) ≡ documentAt (r .documents) d .1 .tree
+unfolding treeAt firstRow filled storedRows
+body-stored r d h l =
+    let ds = r .documents in
+    let a : List (Revision × Node) = rowsIn (take d ds) in
+    let t : List (Revision × Node) = documentAt ds d .1 .tree in
+    let z : List (Revision × Node) = rowsIn (drop (suc d) ds) in
+    let fd : FitsDocument (documentAt ds d) = document-fits ds d (h .documents) l in
+    let n : length a ≡ revisionsHeld (take d ds) = length-rowsIn (take d ds) in
+    let p : drop (rowSize * revisionsHeld (take d ds)) (drop rowsPlace (stored r)) ≡ drop (rowSize * revisionsHeld (take d ds)) (join (map rowBytes (a ++ (t ++ z))) ++ replicate (rowsRoom - length (join (map rowBytes (rowsIn ds)))) 0)
+    = ap (drop (rowSize * revisionsHeld (take d ds))) (past-contents r h ∙ ap (λ (x : List (Revision × Node)). join (map rowBytes x) ++ replicate (rowsRoom - length (join (map rowBytes (rowsIn ds)))) 0) (rows-split ds d l)) in
+    rw (sym (drop-drop (rowSize * revisionsHeld (take d ds)) rowsPlace (stored r)), p)
+    (tree-middle a t z _ (rowSize * revisionsHeld (take d ds)) (fit-rows (take d ds) (all-take FitsDocument d ds (h .documents))) (fd .rows) (omega arith))
+
+pub body-shows : (s : List ℕ) (d : ℕ) (b : Body) → IsBody s d b → Shows s b (documentAt (documentsOf s) d .1 .tree)
+body-shows s d b h =
+    let q = standing s (h .document .laid) in
+    let f = entry-held s d (h .document) in
+    let r = replicaOf s in
+    let l = h .document .laid in
+    record {
+      within = omega (arith, h .base, h .rows);
+      tree = rw (h .base, h .rows) (ap (treeAt (rowPlace (firstRow (documentsOf s) d)) (length (documentAt (documentsOf s) d .1 .tree))) (l .same) ∙ body-stored r d (l .fits) (h .document .within));
+    }
+
+pub found-shows : (s : List ℕ) (i : Id) (d : ℕ) (b : Body) → placeOfId 0 i (documentsOf s) ≡ At d → IsBody s d b → Shows s b (treeOf (replicaOf s) i)
+unfolding treeOf documentOf
+found-shows s i d b e h =
+    let w = body-shows s d b h in
+    let f = id-found d i (documentsOf s) e in
+    record { within = w .within; tree = w .tree ∙ rw (f .found) }
+
+pub absent-shows : (s : List ℕ) (i : Id) (d : ℕ) → Laid s → placeOfId 0 i (documentsOf s) ≡ Gap d → Shows s (record { base = rowsPlace; rows = 0 }) (treeOf (replicaOf s) i)
+unfolding treeOf documentOf treeAt pieces
+absent-shows s i d l e =
+    let q = standing s l in
+    let f = id-gap d i (documentsOf s) e in
+    record { within = omega arith; tree = rw (f .found) }
+
+-- where a document's rows stand among the others, in numbers
+pub record BodyStanding (s : List ℕ) (d : ℕ) (b : Body) : Type 0 where
+  pub size : length s ≡ storeSize
+  pub base : b .base ≡ rowsPlace + rowSize * firstRow (documentsOf s) d
+  pub rows : firstRow (documentsOf s) d + b .rows ≤ revisionsHeld (documentsOf s)
+  pub revisions-most : revisionsHeld (documentsOf s) ≤ revisionsMost
+  pub within : d < documentsMost
+
+pub body-standing : (s : List ℕ) (d : ℕ) (b : Body) → IsBody s d b → BodyStanding s d b
+body-standing s d b h =
+    let q = standing s (h .document .laid) in
+    let f = entry-held s d (h .document) in
+    let w = h .document .within in
+    record {
+      size = q .size;
+      base = h .base;
+      rows = omega (arith, h .rows, f .first-most);
+      «revisions-most» = q .revisions-most;
+      within = omega arith;
+    }

@@ -1,0 +1,60 @@
+-- The documents in a buffer, by their index, and what a caller shows to name one.
+use mathlib.Core.Path.{_≡_}
+use mathlib.Core.List.{List, [], _∷_}
+use Prim.Native.Nat.{ℕ, zero, suc, _+_, _*_, _<_, _≤_}
+use lib.ListN.{length, getD, take}
+use Rattle.rules.specs.Image.{headSize, entrySize, rowSize}
+use Rattle.rules.specs.Map.{Map, byOrder}
+use Rattle.rules.specs.Order.{orderBytes}
+use Rattle.rules.specs.Replica.{Id, Tree, Document, Replica, revisionsHeld}
+use Rattle.tree.specs.declared.table.Found.{Found}
+use Rattle.tree.specs.declared.table.Found.the-variants.{At, Gap}
+use Rattle.tree.specs.Table.{treeAt}
+use Rattle.store.specs.declared.read.Body.{Body}
+use Rattle.store.specs.Storage.{rowsPlace, replicaOf, Laid}
+
+abbrev pub documentsOf : List ℕ → Map Id Document
+documentsOf s = replicaOf s .documents
+
+-- a document without revisions, which no change has reached yet
+abbrev pub noDocument : Id × Document
+noDocument = ([], record { seq = record { 0 = 0 }; tree = [] })
+
+unfoldable pub documentAt : Map Id Document → ℕ → Id × Document
+documentAt ds d = getD ds d noDocument
+
+-- the index of document d's first row among all rows
+unfoldable pub firstRow : Map Id Document → ℕ → ℕ
+firstRow ds d = revisionsHeld (take d ds)
+
+-- the bytes of the buffer where entry d and row k begin
+abbrev pub entryPlace : ℕ → ℕ
+entryPlace d = headSize + entrySize * d
+
+abbrev pub rowPlace : ℕ → ℕ
+rowPlace k = rowsPlace + rowSize * k
+
+-- ---- searching
+
+-- the first id that is not below i, counted from k: it, or the gap before it
+unfoldable pub placeOfId : ℕ → Id → Map Id Document → Found
+placeOfId k i [] = Gap k
+placeOfId k i (d ∷ ds) = byOrder (orderBytes i (d .0)) (Gap k) (At k) (placeOfId (suc k) i ds)
+
+-- ---- contracts
+
+-- s is laid out and has a document d
+pub record HasDocument (s : List ℕ) (d : ℕ) : Type 0 where
+  pub laid : Laid s
+  pub within : d < length (documentsOf s)
+
+-- where document d's rows stand, and how many they are
+pub record IsBody (s : List ℕ) (d : ℕ) (b : Body) : Type 0 where
+  pub document : HasDocument s d
+  pub base : b .base ≡ rowPlace (firstRow (documentsOf s) d)
+  pub rows : b .rows ≡ length (documentAt (documentsOf s) d .1 .tree)
+
+-- rows that are the tree t
+pub record Shows (s : List ℕ) (b : Body) (t : Tree) : Type 0 where
+  pub within : b .base + b .rows * rowSize ≤ length s
+  pub tree : treeAt (b .base) (b .rows) s ≡ t
