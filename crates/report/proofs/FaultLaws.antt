@@ -10,16 +10,17 @@ use lib.ListN.{length, take, drop, length-append, length-take, length-drop, leng
 use lib.Seq.{take-all, take-take}
 use borrow.Author.Tests.{ltb-false, le-ltb, leb-true, leb-false, eqb-true, not-false}
 use Rattle.rules.specs.declared.Fault.{Fault}
-use Rattle.rules.specs.declared.Fault.the-variants.{BadEdition, BadHead, BadContents, BadSequence, BadRow, BadParent}
+use Rattle.rules.specs.declared.Fault.the-variants.{TooShort, BadEdition, BadHead, BadContents, BadSequence, BadRow, BadParent}
 use Rattle.rules.specs.declared.Revision.{Revision}
 use Rattle.rules.specs.Bytes.{part, pieces}
 use Rattle.rules.specs.Choice.{pick, orElse, firstThat}
-use Rattle.rules.specs.Image.{Head, Entry, Row, headSize, entrySize, rowSize, headOf, entryOf, rowOf, entriesOf, rowsOf, deal, sumRows, firstTrue, badHead, badEntry, badEntries, badContents, badSeqs, largest, badSequence, badRows, inEach, badLink, badLinks, at, faults, totalLength}
+use Rattle.rules.specs.Image.{Head, Entry, Row, headSize, entrySize, rowSize, headOf, entryOf, rowOf, entriesOf, rowsOf, deal, sumRows, firstTrue, badHead, badEntry, badEntries, badContents, badSeqs, largest, badSequence, badRows, inEach, badLink, badLinks, at, faults, edition, totalLength}
 use Rattle.rules.specs.Replica.{Id}
 use Rattle.rules.specs.Report.{refusedText, report, inputMost, printed}
 use Rattle.rules.specs.Room.{documentsMost, revisionsMost}
 use Rattle.rules.proofs.ByteLaws.{length-pieces}
 use Rattle.rules.proofs.MapLaws.{none≢some, some-inj}
+use Rattle.images.proofs.Lists.{Each}
 use Rattle.images.proofs.Tests.{true≢false, none5}
 
 -- what is so of a head without a fault
@@ -124,38 +125,53 @@ module _ (s : List ℕ) (d : headOf s .documents ≤ documentsMost) (r : headOf 
       → Most revisionsMost (firstTrue 0 (inEach f (deal (entriesOf s) (rowsOf s))))
   rows-bad-most f h = first-most 0 revisionsMost _ (omega (arith, rows-most, length-in-each f h (entriesOf s) (rowsOf s)))
 
--- what is so of every condition that can come first is so of the first
-first-case : {A : Type 0} (P : A → Type 0) (t : Bool × A) (ts : List (Bool × A)) → P (t .1) → (t .0 ≡ false → (a : A) → firstThat ts ≡ some a → P a)
-    → (a : A) → firstThat (t ∷ ts) ≡ some a → P a
-unfolding firstThat
-first-case {A} P t ts h f a e = go (t .0) refl e
-  where
-    go : (b : Bool) → t .0 ≡ b → pick b (some (t .1)) (firstThat ts) ≡ some a → P a
-    go true q k = subst P (some-inj k) h
-    go false q k = f q a k
-
 at-most : (f : Fault) (o : Option ℕ) → Most revisionsMost o → at f o .1 .1 ≤ revisionsMost
 at-most f none m = omega arith
 at-most f (some p) m = m
 
--- the place is at most that of the last revision that there can be
-abbrev P : Fault × ℕ → Type 0
-P f = f .1 ≤ revisionsMost
+-- what is so of each is so of the first that holds
+first-each : {A : Type 0} (P : A → Type 0) (ts : List (Bool × A)) → Each (λ t. P (t .1)) ts → (a : A) → firstThat ts ≡ some a → P a
+unfolding firstThat
+first-each P [] h a e = absurd (none≢some e)
+first-each P (t ∷ ts) h a e = go (t .0) e
+  where
+    go : (b : Bool) → pick b (some (t .1)) (firstThat ts) ≡ some a → P a
+    go true k = subst P (some-inj k) (h .0)
+    go false k = first-each P ts (h .1) a k
+
+-- the first three conditions give place 0
+first-three : (a b : Bool) (x y z : Fault) (f : Fault × ℕ) → pick a (some (x, 0)) (pick b (some (y, 0)) (some (z, 0))) ≡ some f → f .1 ≤ revisionsMost
+first-three true b x y z f e = let p : 0 ≡ f .1 = ap (λ (g : Fault × ℕ). g .1) (some-inj e) in omega arith
+first-three false true x y z f e = let p : 0 ≡ f .1 = ap (λ (g : Fault × ℕ). g .1) (some-inj e) in omega arith
+first-three false false x y z f e = let p : 0 ≡ f .1 = ap (λ (g : Fault × ℕ). g .1) (some-inj e) in omega arith
 
 -- no place is above the most revisions
 pub place-most : (s : List ℕ) (f : Fault × ℕ) → firstThat (faults s) ≡ some f → f .1 ≤ revisionsMost
-unfolding faults firstThat
-place-most s =
-    let z : 0 ≤ revisionsMost = omega arith in
-    first-case P _ _ z (λ e0.
-    first-case P _ _ z (λ e1.
-    first-case P _ _ z (λ e2.
-    let d = headed s e2 .documents in
-    let r = headed s e2 .revisions in
-    first-case P _ _ (at-most BadContents (badContents s) (contents-most s d r)) (λ e3.
-    first-case P _ _ (at-most BadSequence (badSequence s) (sequence-most s d r)) (λ e4.
-    first-case P _ _ (at-most BadRow _ (rows-bad-most s d r (badRows none) (length-bad-rows none))) (λ e5.
-    first-case P _ _ (at-most BadParent _ (rows-bad-most s d r badLinks length-bad-links)) (λ e6 f e. absurd (none≢some e))))))))
+place-most s f e = go (badHead s) refl
+  where
+    head : badHead s ≡ true → f .1 ≤ revisionsMost
+    head b = unfold faults firstThat in first-three (ltb (length s) headSize) (not (eqb (headOf s .edition) edition)) TooShort BadEdition BadHead f (rw b at e)
+
+    rest : Headed s → f .1 ≤ revisionsMost
+    rest k =
+        let z : 0 ≤ revisionsMost = omega arith in
+        let d = k .documents in
+        let r = k .revisions in
+        first-each (λ (g : Fault × ℕ). g .1 ≤ revisionsMost) (faults s)
+        (unfold faults in (
+          z,
+          z,
+          z,
+          at-most BadContents (badContents s) (contents-most s d r),
+          at-most BadSequence (badSequence s) (sequence-most s d r),
+          at-most BadRow (firstTrue 0 (inEach (badRows none) (deal (entriesOf s) (rowsOf s)))) (rows-bad-most s d r (badRows none) (length-bad-rows none)),
+          at-most BadParent (firstTrue 0 (inEach badLinks (deal (entriesOf s) (rowsOf s)))) (rows-bad-most s d r badLinks length-bad-links),
+          tt,
+        )) f e
+
+    go : (b : Bool) → badHead s ≡ b → f .1 ≤ revisionsMost
+    go true b = head b
+    go false b = rest (headed s b)
 
 -- ---- bytes past the longest image
 

@@ -1,1 +1,2 @@
 -- What the promises of this crate's helpers cite.
+pub mod Lines
