@@ -3,3 +3,7 @@ pub mod RowLaws
 pub mod TableLaws
 pub mod PlaceLaws
 pub mod SearchLaws
+pub mod LeafLaws
+pub mod WinnerLaws
+pub mod PathLaws
+pub mod Outcomes

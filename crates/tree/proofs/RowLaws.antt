@@ -1,12 +1,13 @@
 -- A row's bytes are read back, and a row read from bytes means what they say. Assumes nothing.
-use mathlib.Core.Path.{_≡_, refl, ap, ap₂, _∙_}
+use mathlib.Core.Path.{_≡_, refl, sym, ap, ap₂, _∙_}
 use mathlib.Core.Bool.{Bool, true, false, not}
 use mathlib.Core.List.{List, [], _∷_, _++_}
 use mathlib.Core.Option.{Option, none, some}
 use Prim.Native.Nat.{ℕ, pred, _+_, _^_, _≤_, _<_}
 use native.Mathlib.Omega.{arith}
 use lib.Dec.{eqb}
-use lib.ListN.{length, getD, length-append}
+use lib.ListN.{length, getD, drop, length-append}
+use lib.Seq.{getD-take, getD-drop}
 use Rattle.rules.specs.declared.Content.{Content}
 use Rattle.rules.specs.declared.Content.the-variants.{Live, Deleted}
 use Rattle.rules.specs.declared.Revision.{Revision}
@@ -19,7 +20,7 @@ use Rattle.rules.specs.declared.Order.the-variants.{Less, Greater}
 use Rattle.rules.specs.Replica.{Node, revision}
 use Rattle.rules.specs.Room.{hashSize, labels}
 use Rattle.rules.proofs.ByteLaws.{length-be, value-be, part-front, part-whole, part-past, part-part, getD-past}
-use Rattle.rules.proofs.OrderLaws.{less-orderN}
+use Rattle.rules.proofs.OrderLaws.{less-orderN, rev-path}
 use Rattle.octets.specs.Splice.{splice}
 use Rattle.octets.proofs.ByteOrderLaws.{greater-orderN, equal-orderN}
 use Rattle.octets.proofs.SpliceLaws.{five}
@@ -179,3 +180,15 @@ rev-number at s = ap value (part-part 0 4 at rowSize s (omega arith) ∙ zero-at
 pub rev-hash : (at : ℕ) (s : List ℕ) → revAt at s .hash ≡ part (at + 4) 16 s
 unfolding revAt nodeAt nodeIn rowOf
 rev-hash at s = part-part 4 16 at rowSize s (omega arith)
+
+pub rev-there : (at : ℕ) (s : List ℕ) → revision (value (part at 4 s)) (part (at + 4) 16 s) ≡ revAt at s
+rev-there at s = rev-path _ _ (sym (rev-number at s)) (sym (rev-hash at s))
+
+mark-at : (at : ℕ) (s : List ℕ) → getD (part at rowSize s) 20 0 ≡ getD s (at + 20) 0
+unfolding part
+mark-at at s = getD-take rowSize (drop at s) 20 0 (omega arith) ∙ getD-drop at s 20 0
+
+-- and the kind there
+pub kind-there : (at : ℕ) (s : List ℕ) → kindFrom (getD s (at + 20) 0) (value (part (at + 40) 8 s)) ≡ rowAt at s .kind
+unfolding rowAt rowFrom rowOf
+kind-there at s = ap₂ kindFrom (sym (mark-at at s)) (ap value (sym (part-part 40 8 at rowSize s (omega arith))))

@@ -35,7 +35,7 @@ pub struct Row {
     pub kind: Kind,
 }
 
-fn kind_of(k: u8, label: u64) -> Kind
+pub(crate) fn kind_of(k: u8, label: u64) -> Kind
     ensures { λ r. ⌜ r ≡ kindFrom k label ⌝ }
 {
     if k == 0 {

@@ -1,16 +1,24 @@
 // A table of rows from `base` on in a slice: read, searched and changed.
+use crate::row::Kind;
 use crate::row::Row;
 use crate::row::compare_at;
+use crate::row::kind_of;
 use crate::row::put_row;
 use crate::row::row_of;
+use octets::number::get4;
+use octets::number::get8;
+use octets::run::get_hash;
 use octets::run::move_up;
 use rules::Order;
+use rules::RevNumber;
 use rules::Revision;
 ghost use mathlib.Core.Path.{_≡_};
 ghost use Prim.Native.Nat.{ℕ, _+_, _*_, _<_, _≤_};
 ghost use lib.ListN.{length};
+ghost use Rattle.rules.specs.Map.{find};
 ghost use Rattle.rules.specs.Order.{orderRev};
-ghost use Rattle.tree.specs.Rows.{rowAt, RowPut};
+ghost use Rattle.rules.specs.Write.{isNone};
+ghost use Rattle.tree.specs.Rows.{rowAt, revAt};
 ghost use Rattle.tree.specs.Table.{treeAt, placeOf, Searchable, CanInsert, RowInserted, RowSet};
 
 // Where a revision is, or the gap where it would go.
@@ -27,6 +35,30 @@ pub fn row_at(s: &[u8], base: usize, i: usize) -> Row
     let p = base + i * 48;
     let e = p + 48;
     row_of(&s[p..e])
+}
+
+// Row i's revision.
+pub fn rev_at(s: &[u8], base: usize, i: usize) -> Revision
+    requires { ⌜ base + i * 48 + 48 ≤ length (now s) ⌝ }
+    ensures { λ r. ⌜ r ≡ revAt (base + i * 48) (now (s .entry)) ⌝ }
+{
+    let p = base + i * 48;
+    let number = get4(s, p);
+    let hash = get_hash(s, p + 4);
+    Revision {
+        number: RevNumber(number),
+        hash,
+    }
+}
+
+// Row i's kind.
+pub fn kind_at(s: &[u8], base: usize, i: usize) -> Kind
+    requires { ⌜ base + i * 48 + 48 ≤ length (now s) ⌝ }
+    ensures { λ r. ⌜ r ≡ rowAt (base + i * 48) (now (s .entry)) .kind ⌝ }
+{
+    let p = base + i * 48;
+    let label = get8(s, p + 40);
+    kind_of(s[p + 20], label)
 }
 
 // The first of n rows that is not below rev: it, or the gap before it. By halves.
@@ -66,6 +98,17 @@ pub fn find(s: &[u8], base: usize, n: usize, rev: Revision) -> Found
         Order::Less => search(s, base, last, rev),
         Order::Equal => Found::At(last),
         Order::Greater => Found::Gap(n),
+    }
+}
+
+// Whether rev is not among n rows.
+pub fn is_missing(s: &[u8], base: usize, n: usize, rev: Revision) -> bool
+    requires { ⌜ Searchable base n (now s) ⌝ }
+    ensures { λ r. ⌜ r ≡ isNone (find orderRev rev (treeAt base n (now (s .entry)))) ⌝ }
+{
+    match find(s, base, n, rev) {
+        Found::At(_) => false,
+        Found::Gap(_) => true,
     }
 }
 

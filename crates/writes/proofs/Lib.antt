@@ -4,3 +4,5 @@ pub mod AddLaws
 pub mod PlanLaws
 pub mod ReachLaws
 pub mod EditLaws
+pub mod FormLaws
+pub mod PassLaws

@@ -18,7 +18,7 @@ use Rattle.rules.specs.Replica.{Hash, revision, Node}
 use Rattle.rules.specs.Room.{hashSize}
 use Rattle.rules.specs.Write.{Write, hashes, newestOf, along, gives}
 use Rattle.rules.proofs.ByteLaws.{length-pieces, getD-pieces}
-use Rattle.writes.specs.Path.{countOf, hashAt, revAt, parentAt, contentAt, givenAt}
+use Rattle.writes.specs.Path.{countOf, hashAt, revAt, parentAt, contentAt, givenAt, givesOf}
 
 -- ---- along a path
 
@@ -93,7 +93,7 @@ parent-next w k = go (ltb (k + 1) (countOf (w .path))) refl
         ap (newestOf (pred (n - k))) (no-hash w (suc k) (omega arith)) ∙ sym (ap (λ (t : Bool). pick t parent none) e)
 
 -- what is left from the k-th on
-pub gives-next : (w : Write) (k : ℕ) → k < countOf (w .path) → drop k (gives w) ≡ givenAt w k ∷ drop (suc k) (gives w)
+pub gives-next : (w : Write) (k : ℕ) → k < countOf (w .path) → drop k (gives w) ≡ givenAt (w .number .0) (w .path) (w .content) k ∷ drop (suc k) (gives w)
 unfolding gives givenAt along revAt
 gives-next w k h =
     let n : ℕ = w .number .0 in
@@ -104,5 +104,10 @@ gives-next w k h =
     (λ (o : Option Revision) (c : Option Content).
     (revision (n - k) (hashAt (w .path) k), record { parent = o; content = c }) ∷ along (pred (n - k)) (drop (suc k) (hashes w)) none)
     (parent-next w k) (later-at k (w .content))
-    ∙ ap (λ (l : List (Revision × Node)). givenAt w k ∷ l)
+    ∙ ap (λ (l : List (Revision × Node)). givenAt n (w .path) (w .content) k ∷ l)
     (ap (λ (m : ℕ). along m (drop (suc k) (hashes w)) none) p ∙ sym (drop-along (suc k) n (hashes w) (some (w .content))))))
+
+-- the id doesn't matter
+pub gives-of : (w : Write) → gives w ≡ givesOf (w .number) (w .path) (w .content)
+unfolding givesOf gives hashes
+gives-of w = refl

@@ -2,3 +2,4 @@
 pub mod Path
 pub mod Plan
 pub mod Edit
+pub mod Verdict

@@ -1,17 +1,23 @@
 -- What a pass over a path finds in a document's tree.
+use mathlib.Core.Path.{_≡_}
 use mathlib.Core.Bool.{Bool, true, false, _||_}
 use mathlib.Core.List.{List, [], _∷_}
 use mathlib.Core.Option.{Option, none, some}
-use Prim.Native.Nat.{ℕ, zero, suc, _+_, min}
-use lib.ListN.{length}
+use Prim.Native.Nat.{ℕ, zero, suc, _+_, _≤_, _<_}
+use lib.ListN.{length, drop}
 use Rattle.rules.specs.declared.Revision.{Revision}
 use Rattle.rules.specs.Choice.{pick}
-use Rattle.rules.specs.Map.{find}
+use Rattle.rules.specs.declared.Order.the-variants.{Less}
+use Rattle.rules.specs.Map.{find, Below}
 use Rattle.rules.specs.Order.{orderRev}
 use Rattle.rules.specs.Read.{parentIn}
 use Rattle.rules.specs.Replica.{Node, Tree}
 use Rattle.rules.specs.Write.{lacksParent, isNew, isAddition, otherParent, otherContent}
+use Rattle.rules.specs.Room.{hashesMost}
+use Rattle.tree.specs.Table.{treeAt, Searchable}
 use Rattle.writes.specs.declared.plan.Plan.{Plan}
+use Rattle.writes.specs.declared.plan.Pass.{Pass}
+use Rattle.writes.specs.Path.{countOf}
 
 -- a parent that the path gives and the tree lacks
 unfoldable pub isNewParent : Tree → Revision × Node → Bool
@@ -40,3 +46,26 @@ planFrom t k p (g ∷ gs) = planFrom t (k + 1) (planned t k p g) gs
 
 unfoldable pub planOf : Tree → List (Revision × Node) → Plan
 planOf t gs = planFrom t 0 noPlan gs
+
+-- ---- the pass
+
+-- the counts after k revisions fit
+pub record Counted (p : Plan) (k : ℕ) : Type 0 where
+  pub few : k < hashesMost
+  pub revisions : p .revisions ≤ k
+  pub parents : p .parents ≤ k
+
+pub record CanStep (s : List ℕ) (base top : ℕ) (p : Plan) (k : ℕ) : Type 0 where
+  pub search : Searchable base top s
+  pub counted : Counted p k
+
+-- the revision is planned, and every lower one is below the rows from the new top on
+pub record Stepped (s : List ℕ) (base top : ℕ) (g : Revision × Node) (p : Plan) (k : ℕ) (r : Pass) : Type 0 where
+  pub plan : r .plan ≡ planned (treeAt base top s) k p g
+  pub within : r .top ≤ top
+  pub lower : (v : Revision) → orderRev v (g .0) ≡ Less → Below orderRev v (drop (r .top) (treeAt base top s))
+
+pub record CanPlan (s : List ℕ) (base n number : ℕ) (path : List ℕ) : Type 0 where
+  pub search : Searchable base n s
+  pub most : countOf path ≤ hashesMost
+  pub deep : countOf path ≤ number

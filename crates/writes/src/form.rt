@@ -1,0 +1,64 @@
+// The refusals of a write's form, 1 to 3.
+use rules::PATH_HASHES;
+use rules::Refusal;
+use rules::RevNumber;
+ghost use mathlib.Core.Path.{_≡_};
+ghost use Rattle.rules.specs.declared.Content.{Content};
+ghost use Rattle.rules.specs.Choice.{firstThat};
+ghost use Rattle.rules.specs.Write.{badId, formRefusals};
+ghost use lib.Dec.{ltb};
+ghost use Rattle.writes.specs.Path.{writeOf, countOf, badBytes};
+ghost use Rattle.writes.specs.Verdict.{verdictOf};
+
+// A refusal, or none.
+pub enum Verdict {
+    Clear,
+    Refused(Refusal),
+}
+
+// 1: an id that is empty or over 32 bytes.
+pub(crate) fn bad_id(id: &[u8]) -> bool
+    ensures { λ r. ⌜ r ≡ badId (now (id .entry)) ⌝ }
+{
+    if id.len() == 0 {
+        return true;
+    }
+    32 < id.len()
+}
+
+// 2: bytes that are not a multiple of 16, or not 1 to 512 hashes.
+fn bad_path(path: &[u8]) -> bool
+    ensures { λ r. ⌜ r ≡ badBytes (now (path .entry)) ⌝ }
+{
+    if path.len() % 16 != 0 {
+        return true;
+    }
+    let count = path.len() / 16;
+    if count == 0 {
+        return true;
+    }
+    PATH_HASHES < count
+}
+
+// 3: a number smaller than the count of hashes.
+fn low_number(number: RevNumber, path: &[u8]) -> bool
+    ensures { λ r. ⌜ r ≡ ltb (number .0) (countOf (now (path .entry))) ⌝ }
+{
+    (number.0 as usize) < path.len() / 16
+}
+
+// 1 to 3, in that order; they don't depend on the content.
+pub(crate) fn form(id: &[u8], number: RevNumber, path: &[u8]) -> Verdict
+    ensures { λ r. ⌜ ((c : Content) → r ≡ verdictOf (firstThat (formRefusals (writeOf (now (id .entry)) number (now (path .entry)) c)))) ⌝ }
+{
+    if bad_id(id) {
+        return Verdict::Refused(Refusal::BadId);
+    }
+    if bad_path(path) {
+        return Verdict::Refused(Refusal::BadPath);
+    }
+    if low_number(number, path) {
+        return Verdict::Refused(Refusal::LowNumber);
+    }
+    Verdict::Clear
+}

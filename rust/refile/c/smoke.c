@@ -1,0 +1,341 @@
+/* A smoke test of the C interface, from C: the proved examples, each refusal of a write, an edit and
+ * a read, the house refusals, and the stored images of examples/. After every refused call the
+ * replica and the lent buffer must be what they were; after an accepted one, the bytes behind the
+ * answer. To compile and run it at the top of the repository:
+ *
+ *     cc -std=c11 -Wall -Wextra -O2 -Iinclude -o target/smoke rust/refile/c/smoke.c target/staticlib/librefile.a
+ *     target/smoke examples/lot.image examples/lot.report [IMAGE REPORT]...
+ *
+ * Exit status: 0 all as expected, 1 something differs, 2 a file can't be read.
+ */
+#include <stdbool.h>
+#include <stdio.h>
+#include <stdlib.h>
+#include <string.h>
+
+#include "refile.h"
+
+#define ID (const uint8_t *)"lot", 3
+
+static uint8_t replica[REFILE_REPLICA_BYTES], other[REFILE_REPLICA_BYTES];
+static uint8_t before[REFILE_REPLICA_BYTES];
+static uint8_t out[REFILE_IMAGE_MOST + 64];
+static unsigned tried, bad;
+
+static void expect(bool holds, const char *what) {
+    tried++;
+    if (!holds) {
+        bad++;
+        printf("smoke: %s\n", what);
+    }
+}
+
+/* The place of a byte stands in its pattern, so that bytes that were moved show too. */
+static uint8_t pattern(size_t at) { return (uint8_t)(0xa5 ^ (uint8_t)(29 * at)); }
+
+static void prepare(void) {
+    memcpy(before, replica, sizeof replica);
+    for (size_t i = 0; i < sizeof out; i++) {
+        out[i] = pattern(i);
+    }
+}
+
+static bool untouched_from(size_t at) {
+    for (size_t i = at; i < sizeof out; i++) {
+        if (out[i] != pattern(i)) {
+            return false;
+        }
+    }
+    return true;
+}
+
+static bool is(uint64_t result, uint32_t refusal, uint64_t value) {
+    return refile_refusal(result) == refusal && refile_value(result) == value;
+}
+
+/* A refusal that is no image's: its value is 0, and nothing was altered. */
+static void refused(uint64_t result, uint32_t refusal, const char *what) {
+    expect(is(result, refusal, 0), what);
+    expect(memcmp(replica, before, sizeof replica) == 0, what);
+    expect(untouched_from(0), what);
+}
+
+/* An accepted call that wrote so many bytes to the buffer. */
+static void answered(uint64_t result, uint64_t value, size_t bytes, const char *what) {
+    expect(is(result, 0, value), what);
+    expect(untouched_from(bytes), what);
+}
+
+/* A path in which each hash is its first byte, the rest zeros. */
+static const uint8_t *hashes(const char *first_bytes, size_t count) {
+    static uint8_t path[4 * REFILE_HASH_BYTES];
+
+    memset(path, 0, sizeof path);
+    for (size_t i = 0; i < count; i++) {
+        path[REFILE_HASH_BYTES * i] = (uint8_t)first_bytes[i];
+    }
+    return path;
+}
+
+static uint64_t write_lot(uint32_t number, const char *first_bytes, size_t count, uint32_t kind,
+                          uint64_t label) {
+    prepare();
+    return refile_write(replica, sizeof replica, ID, number, hashes(first_bytes, count),
+                        REFILE_HASH_BYTES * count, kind, label);
+}
+
+static uint64_t edit_lot(char hash, uint32_t kind, uint64_t label, uint32_t parent_number,
+                         char parent) {
+    uint8_t pair[2 * REFILE_HASH_BYTES];
+
+    prepare();
+    memcpy(pair, hashes(&hash, 1), REFILE_HASH_BYTES);
+    memcpy(pair + REFILE_HASH_BYTES, hashes(&parent, 1), REFILE_HASH_BYTES);
+    return refile_edit(replica, sizeof replica, ID, pair, REFILE_HASH_BYTES, kind, label, 1,
+                       parent_number, pair + REFILE_HASH_BYTES, REFILE_HASH_BYTES);
+}
+
+static uint64_t edit_alone(char hash, uint32_t kind, uint64_t label) {
+    prepare();
+    return refile_edit(replica, sizeof replica, ID, hashes(&hash, 1), REFILE_HASH_BYTES, kind,
+                       label, 0, 0, out, 0);
+}
+
+static void fresh(void) { expect(is(refile_fresh(replica, sizeof replica), 0, 0), "fresh"); }
+
+static uint64_t sequence(void) {
+    return refile_value(refile_update_sequence(replica, sizeof replica));
+}
+
+/* The leaves are so many, and the winner has that number and first byte. */
+static void leaves_are(uint32_t count, uint32_t number, uint8_t first_byte, const char *what) {
+    prepare();
+    answered(refile_leaves(replica, sizeof replica, ID, out, sizeof out), count,
+             count * REFILE_LEAF_BYTES, what);
+    prepare();
+    answered(refile_winner(replica, sizeof replica, ID, out, sizeof out), REFILE_LEAF_BYTES,
+             REFILE_LEAF_BYTES, what);
+    expect(out[3] == number && out[4] == first_byte, what);
+}
+
+static void cases_1_to_8(void) {
+    fresh();
+    expect(is(write_lot(1, "\x20", 1, REFILE_LIVE, 7), 0, 1) && sequence() == 1, "case 1");
+    expect(is(write_lot(2, "\x91\x20", 2, REFILE_LIVE, 8), 0, 1), "case 2");
+    leaves_are(1, 2, 0x91, "case 2");
+    expect(is(write_lot(2, "\x4c\x20", 2, REFILE_LIVE, 9), 0, 1) && sequence() == 3, "case 3");
+    leaves_are(2, 2, 0x91, "case 3");
+    expect(is(write_lot(2, "\x4c\x20", 2, REFILE_LIVE, 9), 0, 0) && sequence() == 3, "case 4");
+    expect(is(write_lot(3, "\x05\x91\x20", 3, REFILE_DELETED, 0), 0, 1), "case 5");
+    leaves_are(2, 2, 0x4c, "case 5");
+    expect(sequence() == 4, "case 5");
+    refused(write_lot(2, "\x4c\x33", 2, REFILE_LIVE, 9), REFILE_PARENT, "case 6");
+    refused(write_lot(2, "\x4c\x20", 2, REFILE_LIVE, 10), REFILE_CONTENT, "case 7");
+    expect(is(write_lot(1, "\x20", 1, REFILE_DELETED, 0), 0, 0) && sequence() == 4, "case 8");
+}
+
+static void cases_9_to_14(void) {
+    static const uint8_t fresh_image[16] = {0, 1, [15] = 0x10};
+
+    fresh();
+    expect(is(write_lot(3, "\x70", 1, REFILE_LIVE, 1), 0, 1), "case 9");
+    expect(is(write_lot(2, "\x61", 1, REFILE_LIVE, 2), 0, 1), "case 9");
+    leaves_are(2, 3, 0x70, "case 9");
+    expect(is(write_lot(3, "\x70\x61", 2, REFILE_LIVE, 1), 0, 1) && sequence() == 3, "case 10");
+    leaves_are(1, 3, 0x70, "case 10");
+    fresh();
+    expect(is(write_lot(9, "\xaa", 1, REFILE_LIVE, 1), 0, 1), "case 11");
+    expect(is(write_lot(10, "\x01", 1, REFILE_LIVE, 1), 0, 1), "case 11");
+    leaves_are(2, 10, 0x01, "case 11");
+    fresh();
+    expect(is(write_lot(2, "\x10", 1, REFILE_DELETED, 0), 0, 1), "case 12");
+    expect(is(write_lot(2, "\x20", 1, REFILE_DELETED, 0), 0, 1), "case 12");
+    leaves_are(2, 2, 0x20, "case 12");
+    fresh();
+    refused(write_lot(2, "\x0a\x0b\x0c", 3, REFILE_LIVE, 1), REFILE_NUMBER, "case 13");
+    refused(write_lot(0, "\x0a", 1, REFILE_LIVE, 1), REFILE_NUMBER, "case 13");
+    prepare();
+    answered(refile_save(replica, sizeof replica, out, sizeof out), 16, 16, "case 14");
+    expect(memcmp(out, fresh_image, sizeof fresh_image) == 0, "case 14");
+}
+
+static void writes_are_refused(void) {
+    static const uint8_t long_id[REFILE_ID_BYTES + 1];
+    static uint8_t long_path[REFILE_HASH_BYTES * (REFILE_PATH_HASHES + 1)];
+    const uint8_t *one = hashes("\x20", 1);
+
+    fresh();
+    prepare();
+    refused(refile_write(replica, sizeof replica, ID, 1, one, 16, 3, 0), REFILE_BAD_KIND, "101");
+    refused(refile_write(replica, sizeof replica, ID, 1, one, 16, REFILE_DELETED, 1),
+            REFILE_BAD_LABEL, "102");
+    refused(refile_write(replica, sizeof replica - 1, ID, 1, one, 16, REFILE_LIVE, 1),
+            REFILE_BAD_REPLICA, "100");
+    refused(refile_write(replica, sizeof replica, long_id, 0, 1, one, 16, REFILE_LIVE, 1),
+            REFILE_ID, "an empty id");
+    refused(refile_write(replica, sizeof replica, long_id, sizeof long_id, 1, one, 16, REFILE_LIVE,
+                         1),
+            REFILE_ID, "an id of 33 bytes");
+    refused(refile_write(replica, sizeof replica, ID, 1, one, 15, REFILE_LIVE, 1), REFILE_PATH,
+            "a path of 15 bytes");
+    refused(refile_write(replica, sizeof replica, ID, 1, one, 0, REFILE_LIVE, 1), REFILE_PATH,
+            "an empty path");
+    refused(refile_write(replica, sizeof replica, ID, 600, long_path, sizeof long_path, REFILE_LIVE,
+                         1),
+            REFILE_PATH, "a path of 513 hashes");
+    expect(is(refile_write(replica, sizeof replica, ID, 600, long_path, sizeof long_path - 16,
+                           REFILE_LIVE, 1),
+              0, 1),
+           "a path of 512 hashes");
+    refused(write_lot(1, "\x20", 1, REFILE_LIVE, 1), REFILE_NO_REVISION_ROOM, "revision 513");
+    fresh();
+    for (uint8_t id = 0; id < REFILE_DOCUMENTS; id++) {
+        one = hashes("\x20", 1);
+        expect(is(refile_write(replica, sizeof replica, &id, 1, 1, one, 16, REFILE_LIVE, 0), 0, 1),
+               "32 documents");
+    }
+    refused(write_lot(1, "\x20", 1, REFILE_LIVE, 1), REFILE_NO_DOCUMENT_ROOM, "document 33");
+}
+
+static void edits_are_refused(void) {
+    fresh();
+    refused(edit_alone(0x20, REFILE_DELETED, 0), REFILE_EDIT_PARENT, "a deletion of nothing");
+    refused(edit_lot(0x20, REFILE_LIVE, 1, 0, 0x20), REFILE_EDIT_PARENT, "a parent of number 0");
+    expect(is(edit_alone(0x20, REFILE_LIVE, 1), 0, 1), "an edit of an absent document");
+    refused(edit_alone(0x21, REFILE_LIVE, 1), REFILE_EDIT_PARENT, "no parent, and a live winner");
+    expect(is(edit_lot(0x21, REFILE_DELETED, 0, 1, 0x20), 0, 2), "an edit of a leaf");
+    refused(edit_lot(0x22, REFILE_LIVE, 1, 1, 0x20), REFILE_EDIT_PARENT, "a parent with a child");
+    expect(is(edit_alone(0x22, REFILE_LIVE, 1), 0, 3), "an edit of a deleted document");
+    expect(is(write_lot(2, "\x30", 1, REFILE_LIVE, 1), 0, 1), "a second leaf");
+    refused(edit_lot(0x22, REFILE_LIVE, 1, 2, 0x30), REFILE_EDIT_KNOWN, "a known revision");
+    expect(is(write_lot(UINT32_MAX, "\x40", 1, REFILE_LIVE, 1), 0, 1), "the last number");
+    refused(edit_lot(0x41, REFILE_LIVE, 1, UINT32_MAX, 0x40), REFILE_EDIT_LAST, "past the last");
+}
+
+/* Runs on what cases 1 to 5 leave. */
+static void reads(void) {
+    static const uint8_t asked[3 * REFILE_ASKED_BYTES] = {
+        [3] = 1, [4] = 0x20, [23] = 2, [24] = 0x20, [43] = 0, [44] = 0x20};
+    static const uint8_t answer[3] = {0, 1, 1};
+    uint8_t numbers[REFILE_CHANGES_BYTES];
+    const uint8_t *absent = (const uint8_t *)"lots";
+    const uint8_t *hash = hashes("\x05", 1);
+
+    prepare();
+    refused(refile_winner(replica, sizeof replica, absent, 4, out, sizeof out), REFILE_NO_DOCUMENT,
+            "winner of an absent document");
+    refused(refile_winner(replica, sizeof replica, ID, out, REFILE_LEAF_BYTES - 1),
+            REFILE_SHORT_BUFFER, "winner, a short buffer");
+    refused(refile_leaves(replica, sizeof replica, ID, out, 2 * REFILE_LEAF_BYTES - 1),
+            REFILE_SHORT_BUFFER, "leaves, a short buffer");
+    refused(refile_path(replica, sizeof replica, ID, 2, hash, 16, out, sizeof out),
+            REFILE_NO_REVISION, "path of an absent revision");
+    refused(refile_path(replica, sizeof replica, ID, 3, hash, 15, out, sizeof out), REFILE_BAD_HASH,
+            "a hash of 15 bytes");
+    refused(refile_path(replica, sizeof replica, ID, 3, hash, 16, out, 47), REFILE_SHORT_BUFFER,
+            "path, a short buffer");
+    answered(refile_path(replica, sizeof replica, ID, 3, hash, 16, out, 48), 3, 48, "path");
+    expect(out[0] == 0x05 && out[16] == 0x91 && out[32] == 0x20, "path, newest first");
+    prepare();
+    refused(refile_missing(replica, sizeof replica, ID, asked, 21, out, sizeof out), REFILE_ASKED,
+            "an asked list of 21 bytes");
+    refused(refile_missing(replica, sizeof replica, ID, asked, sizeof asked, out, 2),
+            REFILE_SHORT_BUFFER, "missing, a short buffer");
+    answered(refile_missing(replica, sizeof replica, ID, asked, sizeof asked, out, 3), 3, 3,
+             "missing");
+    expect(memcmp(out, answer, 3) == 0, "missing: known, not known, number 0");
+    prepare();
+    refused(refile_changes(replica, sizeof replica, 0, out, 2, numbers, sizeof numbers),
+            REFILE_SHORT_BUFFER, "changes, a short buffer");
+    refused(refile_changes(replica, sizeof replica, 0, out, 3, numbers, sizeof numbers - 1),
+            REFILE_SHORT_BUFFER, "changes, a short answer");
+    answered(refile_changes(replica, sizeof replica, 4, out, 0, numbers, 0), 0, 0,
+             "no more changes");
+    answered(refile_changes(replica, sizeof replica, 3, out, 3, numbers, sizeof numbers), 1, 3,
+             "changes");
+    expect(numbers[3] == 3 && numbers[7] == 4 && numbers[11] == 2 && numbers[15] == 0, "changes");
+    prepare();
+    refused(refile_counts(replica, sizeof replica, out, REFILE_COUNTS_BYTES - 1),
+            REFILE_SHORT_BUFFER, "counts, a short answer");
+    answered(refile_counts(replica, sizeof replica, out, sizeof out), 0, REFILE_COUNTS_BYTES,
+             "counts");
+    expect(out[3] == 1 && out[7] == 4, "counts");
+}
+
+/* Runs on what cases 1 to 5 leave, in either direction. */
+static void pulls(void) {
+    uint8_t counts[REFILE_PULL_BYTES];
+
+    expect(is(refile_fresh(other, sizeof other), 0, 0), "fresh");
+    prepare();
+    refused(refile_pull(replica, sizeof replica, other, sizeof other, 0, out, sizeof counts - 1),
+            REFILE_SHORT_BUFFER, "pull, a short answer");
+    expect(is(refile_pull(other, sizeof other, replica, sizeof replica, 0, counts, sizeof counts),
+              0, 0),
+           "pull");
+    expect(counts[3] == 2 && counts[7] == 0 && counts[11] == 0, "pull, all changed");
+    expect(memcmp(replica, before, sizeof replica) == 0, "a pull leaves its source");
+    expect(is(refile_pull(other, sizeof other, replica, sizeof replica, 0, counts, sizeof counts),
+              0, 0),
+           "pull");
+    expect(counts[3] == 0 && counts[7] == 2 && counts[11] == 0, "pull again, all unchanged");
+}
+
+static size_t read_file(const char *path, uint8_t *bytes, size_t room) {
+    FILE *file = fopen(path, "rb");
+    size_t length;
+
+    if (file == NULL) {
+        perror(path);
+        exit(2);
+    }
+    length = fread(bytes, 1, room, file);
+    fclose(file);
+    return length;
+}
+
+/* The report is the stored one; a sound image loads and is saved as the same bytes; a damaged one is
+ * refused as its report says and leaves the former replica. */
+static void image_is(const char *image_path, const char *report_path) {
+    static uint8_t image[REFILE_IMAGE_MOST + 1], report[REFILE_REPORT_MOST + 1];
+    size_t length = read_file(image_path, image, sizeof image);
+    size_t text = read_file(report_path, report, sizeof report - 1);
+    unsigned refusal = 0, place = 0;
+    uint64_t result;
+
+    report[text] = 0;
+    prepare();
+    answered(refile_report(image, length, out, text), text, text, image_path);
+    expect(memcmp(out, report, text) == 0, image_path);
+    prepare();
+    refused(refile_report(image, length, out, text - 1), REFILE_SHORT_BUFFER, image_path);
+    result = refile_load(replica, sizeof replica, image, length);
+    if (sscanf((const char *)report, "refused %u at %u", &refusal, &place) == 2) {
+        expect(is(result, refusal, place), image_path);
+        expect(memcmp(replica, before, sizeof replica) == 0, image_path);
+        return;
+    }
+    expect(is(result, 0, 0), image_path);
+    prepare();
+    refused(refile_save(replica, sizeof replica, out, length - 1), REFILE_SHORT_BUFFER, image_path);
+    answered(refile_save(replica, sizeof replica, out, length), length, length, image_path);
+    expect(memcmp(out, image, length) == 0, image_path);
+}
+
+int main(int argc, char **argv) {
+    if (argc < 3 || argc % 2 == 0) {
+        fprintf(stderr, "smoke: name images, each with its report\n");
+        return 2;
+    }
+    cases_1_to_8();
+    reads();
+    pulls();
+    cases_9_to_14();
+    writes_are_refused();
+    edits_are_refused();
+    for (int i = 1; i < argc; i += 2) {
+        image_is(argv[i], argv[i + 1]);
+    }
+    printf("smoke: %u tried, %u differ\n", tried, bad);
+    return bad == 0 ? 0 : 1;
+}
