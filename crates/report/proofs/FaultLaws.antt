@@ -133,11 +133,11 @@ at-most f (some p) m = m
 first-each : {A : Type 0} (P : A → Type 0) (ts : List (Bool × A)) → Each (λ t. P (t .1)) ts → (a : A) → firstThat ts ≡ some a → P a
 unfolding firstThat
 first-each P [] h a e = absurd (none≢some e)
-first-each P (t ∷ ts) h a e = go (t .0) e
+first-each P (t ∷ ts) h a e = go (t .0) e (λ k. first-each P ts (h .1) a k)
   where
-    go : (b : Bool) → pick b (some (t .1)) (firstThat ts) ≡ some a → P a
-    go true k = subst P (some-inj k) (h .0)
-    go false k = first-each P ts (h .1) a k
+    go : (b : Bool) → pick b (some (t .1)) (firstThat ts) ≡ some a → (firstThat ts ≡ some a → P a) → P a
+    go true k f = subst P (some-inj k) (h .0)
+    go false k f = f k
 
 -- the first three conditions give place 0
 first-three : (a b : Bool) (x y z : Fault) (f : Fault × ℕ) → pick a (some (x, 0)) (pick b (some (y, 0)) (some (z, 0))) ≡ some f → f .1 ≤ revisionsMost
@@ -158,16 +158,14 @@ place-most s f e = go (badHead s) refl
         let d = k .documents in
         let r = k .revisions in
         first-each (λ (g : Fault × ℕ). g .1 ≤ revisionsMost) (faults s)
-        (unfold faults in (
-          z,
-          z,
-          z,
-          at-most BadContents (badContents s) (contents-most s d r),
-          at-most BadSequence (badSequence s) (sequence-most s d r),
-          at-most BadRow (firstTrue 0 (inEach (badRows none) (deal (entriesOf s) (rowsOf s)))) (rows-bad-most s d r (badRows none) (length-bad-rows none)),
-          at-most BadParent (firstTrue 0 (inEach badLinks (deal (entriesOf s) (rowsOf s)))) (rows-bad-most s d r badLinks length-bad-links),
-          tt,
-        )) f e
+        (unfold faults in
+        (z, (z, (z,
+        (at-most BadContents (badContents s) (contents-most s d r),
+        (at-most BadSequence (badSequence s) (sequence-most s d r),
+        (at-most BadRow (firstTrue 0 (inEach (badRows none) (deal (entriesOf s) (rowsOf s)))) (rows-bad-most s d r (badRows none) (length-bad-rows none)),
+        (at-most BadParent (firstTrue 0 (inEach badLinks (deal (entriesOf s) (rowsOf s)))) (rows-bad-most s d r badLinks length-bad-links),
+        tt))))))))
+        f e
 
     go : (b : Bool) → badHead s ≡ b → f .1 ≤ revisionsMost
     go true b = head b

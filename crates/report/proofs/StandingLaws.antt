@@ -13,7 +13,7 @@ use Rattle.rules.specs.Bytes.{join}
 use Rattle.rules.specs.Choice.{maybe}
 use Rattle.rules.specs.Map.{Map, find}
 use Rattle.rules.specs.Order.{orderRev}
-use Rattle.rules.specs.Read.{LeafOf, leafIn, leaves, winner, conflicts}
+use Rattle.rules.specs.Read.{leafIn, leaves, winner, conflicts}
 use Rattle.rules.specs.Replica.{Id, Tree, Document, Replica, documentOf, IsTree, IsDocument}
 use Rattle.rules.specs.Report.{decimal, hex, text, lineOf, revText, lineText, headText, replicaText}
 use Rattle.rules.specs.Room.{idMost, revisionsMost}
@@ -21,7 +21,9 @@ use Rattle.rules.proofs.MapLaws.{none≢some}
 use Rattle.rules.proofs.OrderLaws.{bytesOrder}
 use Rattle.rules.proofs.ByteLaws.{join-append}
 use Rattle.images.proofs.Lists.{map-append}
-use Rattle.union.proofs.Winners.{leaf-content}
+use Rattle.union.proofs.Winners.{leafOf, leaf-content}
+use Rattle.octets.proofs.SpliceLaws.{splice-none}
+use Rattle.text.specs.Text.{Put}
 use Rattle.tree.specs.declared.leaf.Winner.{Winner}
 use Rattle.tree.specs.declared.leaf.Winner.the-variants as won
 use Rattle.tree.specs.declared.table.Found.{Found}
@@ -30,13 +32,15 @@ use Rattle.tree.specs.Leaf.{atPlace, winnerPlace}
 use Rattle.tree.specs.Rows.{revAt}
 use Rattle.tree.specs.Table.{treeAt, placeOf}
 use Rattle.tree.proofs.PlaceLaws.{place-at, place-gap}
-use Rattle.tree.proofs.SearchLaws.{rev-in}
+use Rattle.tree.proofs.SearchLaws.{revIn, rev-in}
 use Rattle.tree.proofs.TableLaws.{length-tree}
 use Rattle.store.specs.Storage.{replicaOf, All, IsStored}
-use Rattle.store.specs.Documents.{documentsOf, documentAt, noDocument}
+use Rattle.store.specs.Documents.{documentsOf, documentAt, noDocument, IsBody}
+use Rattle.store.specs.declared.read.Body.{Body}
+use Rattle.store.proofs.BodyLaws.{body-shows}
 use Rattle.store.proofs.EntryLaws.{all-at}
 use Rattle.store.proofs.FitLaws.{all-found}
-use Rattle.report.specs.Lines.{countsText, winnerRev, standingText, linesText}
+use Rattle.report.specs.Lines.{countsText, HasTree, winnerRev, standingText, linesText}
 use Rattle.report.proofs.WinnerLaws.{Won, has-winner, conflict-count}
 
 -- ---- the winner's row
@@ -71,11 +75,11 @@ module _ (t : Tree) (h : IsTree t) where
       let k = place-at i (w .leaf .rev) t (at-only (placeOf 0 (w .leaf .rev) t) i (sym (place-won w) ∙ e)) in
       let l : length t ≡ n = ap length q ∙ length-tree base n b in
       let m : i < n = omega (arith, k .within) in
-      (m, sym (rev-in base n i b m) ∙ (ap (λ (u : Tree). getD u i _ .0) (sym q) ∙ (k .is ∙ sym (winner-is w))))
+      (m, sym (rev-in base n i b m) ∙ (ap (λ (u : Tree). revIn u i) (sym q) ∙ (k .is ∙ sym (winner-is w))))
 
 -- ---- counts
 
-length-leaf-in : (o : Option Content) (v : Revision) → length (maybe [] (λ c. _∷_ {A = LeafOf} (record { rev = v; content = c }) []) o) ≤ 1
+length-leaf-in : (o : Option Content) (v : Revision) → length (maybe [] (λ c. leafOf v c ∷ []) o) ≤ 1
 length-leaf-in none v = omega arith
 length-leaf-in (some c) v = omega arith
 
@@ -93,23 +97,35 @@ stored-document s d h k =
     all-at (λ (x : Id × Document). IsDocument (replicaOf s) (x .0) (x .1)) (documentsOf s) d _
     (all-found bytesOrder (λ (x : Id × Document). IsDocument (replicaOf s) (x .0) (x .1)) (documentsOf s) (h .replica .ascending) (h .replica .documents)) k
 
+pub id-most : (s : List ℕ) (d : ℕ) (i : Id) → IsStored s → d < length (documentsOf s) → i ≡ documentAt (documentsOf s) d .0 → length i ≤ idMost
+id-most s d i h k e = rw e (stored-document s d h k .id .most)
+
+pub body-tree : (s : List ℕ) (d : ℕ) (b : Body) → IsStored s → IsBody s d b → HasTree (b .base) (b .rows) s
+body-tree s d b h k =
+    let w = body-shows s d b k in
+    record { within = w .within; tree = subst IsTree (sym (w .tree)) (stored-document s d h (k .document .within) .tree) }
+
 -- ---- a line as it is put together
 
-pub line-joined : (x : Id × Document) → IsTree (x .1 .tree) → (q : ℕ) → q ≡ x .1 .seq .0
-    → (hex (x .0) ++ (text " seq " ++ decimal q)) ++ standingText (x .1 .tree) ≡ lineText (lineOf x)
+pub rev-joined : (v : Revision) → (decimal (v .number .0) ++ text "-") ++ hex (v .hash) ≡ revText v
+unfolding revText
+rev-joined v = append-assoc (decimal (v .number .0)) (text "-") (hex (v .hash))
+
+pub line-joined : (x : Id × Document) (i : Id) (q : ℕ) (t : Tree) → IsTree (x .1 .tree) → i ≡ x .0 → q ≡ x .1 .seq .0 → t ≡ x .1 .tree
+    → (hex i ++ (text " seq " ++ decimal q)) ++ standingText t ≡ lineText (lineOf x)
 unfolding lineText lineOf standingText countsText winnerRev
-line-joined x h q e =
+line-joined x i q t h e f g =
     let c : length (leaves (x .1 .tree)) - 1 ≡ length (conflicts (x .1 .tree)) = omega (arith, conflict-count (x .1 .tree) h) in
-    rw (sym e, c) (simp append-assoc)
+    rw (e, f, g, c) (simp append-assoc)
 
 pub standing-joined : (t : Tree) (v : Revision) (n : ℕ) → v ≡ winnerRev t → n ≡ length (leaves t)
     → (text " winner " ++ revText v) ++ countsText n ≡ standingText t
 unfolding standingText
 standing-joined t v n e f = rw (sym e, sym f) (simp append-assoc)
 
-pub lines-none : (ds : Map Id Document) → linesText (take 0 ds) ≡ []
+pub lines-none : (ds : Map Id Document) (s : List ℕ) (at : ℕ) → Put (linesText (take 0 ds)) s at at s
 unfolding linesText join
-lines-none ds = refl
+lines-none ds s at = record { is = sym (splice-none s at); ends = omega arith }
 
 pub lines-more : (ds : Map Id Document) (d : ℕ) → d < length ds → linesText (take d ds) ++ lineText (lineOf (documentAt ds d)) ≡ linesText (take (d + 1) ds)
 unfolding linesText documentAt join

@@ -18,15 +18,14 @@ use tree::leaf::winner_at;
 use tree::table::rev_at;
 ghost use mathlib.Core.Path.{_≡_};
 ghost use mathlib.Core.List.{_++_};
-ghost use Prim.Native.Nat.{ℕ, _+_, _≤_, _<_};
+ghost use Prim.Native.Nat.{ℕ, _+_, _*_, _≤_, _<_};
 ghost use lib.ListN.{length};
 ghost use Rattle.rules.specs.Refusal.{faultNumber};
 ghost use Rattle.rules.specs.Report.{decimal, lineOf, revText, lineText, headText, replicaText, refusedText};
-ghost use Rattle.text.specs.Text.{Put};
 ghost use Rattle.tree.specs.Table.{treeAt};
 ghost use Rattle.store.specs.Storage.{replicaOf};
 ghost use Rattle.store.specs.Documents.{documentsOf, documentAt};
-ghost use Rattle.report.specs.Lines.{headMost, revMost, countsMost, standingMost, lineMost, refusedMost, countsText, winnerRev, standingText, linesText, PutWithin, CanPutHead, CanPutCounts, HasTree, CanPutStanding, CanPutLine, CanPutLines, CanPutReplica};
+ghost use Rattle.report.specs.Lines.{headMost, revMost, countsMost, standingMost, lineMost, reportMost, refusedMost, countsText, winnerRev, standingText, linesText, PutWithin, CanPutHead, CanPutCounts, HasTree, CanPutStanding, CanPutLine, CanPutLines, CanPutReplica};
 
 // Writes a word and a number.
 fn put_field(s: &mut [u8], at: usize, word: &[u8], v: u32) -> usize
@@ -138,7 +137,7 @@ fn put_line(b: &[u8], d: usize, s: &mut [u8], at: usize) -> usize
 // A line for each document.
 fn put_lines(b: &[u8], s: &mut [u8], at: usize) -> usize
     requires { ⌜ CanPutLines (now b) (now s) at ⌝ }
-    ensures { λ r. ⌜ Put (linesText (documentsOf (now (b .entry)))) (now (s .entry)) at r (now (s .exit)) ⌝ }
+    ensures { λ r. ⌜ PutWithin (lineMost * length (documentsOf (now (b .entry)))) (linesText (documentsOf (now (b .entry)))) (now (s .entry)) at r (now (s .exit)) ⌝ }
 {
     let n = documents_held(b);
     let mut next = at;
@@ -153,7 +152,7 @@ fn put_lines(b: &[u8], s: &mut [u8], at: usize) -> usize
 // The report of a replica.
 pub(crate) fn put_replica(b: &[u8], s: &mut [u8]) -> usize
     requires { ⌜ CanPutReplica (now b) (now s) ⌝ }
-    ensures { λ r. ⌜ Put (replicaText (replicaOf (now (b .entry)))) (now (s .entry)) 0 r (now (s .exit)) ⌝ }
+    ensures { λ r. ⌜ PutWithin reportMost (replicaText (replicaOf (now (b .entry)))) (now (s .entry)) 0 r (now (s .exit)) ⌝ }
 {
     let next = put_head(b, s);
     put_lines(b, s, next)

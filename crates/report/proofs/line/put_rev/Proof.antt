@@ -1,4 +1,9 @@
 -- `report::line::put_rev` meets its contract. Assumes nothing.
+use mathlib.Core.Path.{_≡_}
+use lib.ListN.{length}
+use Rattle.rules.specs.Report.{text}
+use Rattle.text.proofs.TextLaws.{length-hex}
+use Rattle.report.proofs.StandingLaws.{rev-joined}
 use native.Mathlib.Omega.{arith}
 use Rattle.report.proofs.LengthLaws.{decimal-most}
 use Rattle.report.proofs.PutLaws.{put-then, put-as}
@@ -29,7 +34,10 @@ slice-aggregate-put-hex c = search needs
 
 -- src/line.rt:52:5
 put-hex-requires : tie.Need-put-hex-requires
-put-hex-requires c κs = ?
+put-hex-requires c κs =
+    let n = decimal-most ((c .before .before .before .before .before .before .before .before .before .before .before .before .before .before) .args .rev .number .0) in
+    let h : length ((c .before .before .before .before .before .before .before .before .before .before .before .before .before .before) .args .rev .hash) ≡ 16 = search needs in
+    omega arith
 
 -- src/line.rt:44:1
 same-length : tie.Need-same-length
@@ -38,7 +46,14 @@ same-length c = search needs
 -- src/line.rt:44:1
 returns : tie.Need-returns
 unfolding text
-returns c = ?
+returns c = 
+    let n = decimal-most ((c .before .before .before .before .before .before .before .before .before .before .before .before .before .before .before .before .before) .args .rev .number .0) in
+    let h : length ((c .before .before .before .before .before .before .before .before .before .before .before .before .before .before .before .before .before) .args .rev .hash) ≡ 16 = search needs in
+    let l = length-hex ((c .before .before .before .before .before .before .before .before .before .before .before .before .before .before .before .before .before) .args .rev .hash) in
+    record {
+      put = put-as (rev-joined ((c .before .before .before .before .before .before .before .before .before .before .before .before .before .before .before .before .before) .args .rev)) (put-then (put-then ((c .before .before .before .before .before .before .before .before .before .before .before .before .put-decimal) .ensures) ((c .before .before .before .before .before .before .before .put-word) .ensures) (omega arith)) ((c .before .before .put-hex) .ensures) (omega arith));
+      most = omega arith;
+    }
 
 pub put-rev-spec : {M : Type 1} → statement M
 put-rev-spec =
