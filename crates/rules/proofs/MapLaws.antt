@@ -1,14 +1,13 @@
 -- Laws of maps: what `find` answers after `alter`, and that two maps with the same answers are one list. Assumes nothing.
-use mathlib.Core.Path.{_≡_, refl, sym, ap, ap₂, _∙_, subst}
-use mathlib.Core.List.{List, [], _∷_}
+use mathlib.Core.Path.{_≡_, refl, sym, ap, ap₂, _∙_}
+use mathlib.Core.List.{[], _∷_}
 use mathlib.Core.Option.{Option, none, some}
-use Prim.Native.Nat.{ℕ, zero, suc, _+_, _≤_, _<_}
+use Prim.Native.Nat.{ℕ}
 use native.Mathlib.Omega.{arith}
-use lib.ListN.{length}
 use Rattle.rules.specs.declared.Order.{Order}
 use Rattle.rules.specs.declared.Order.the-variants.{Less, Equal, Greater}
-use Rattle.rules.specs.Map.{Map, byOrder, find, alter, Below, Ascending}
-use Rattle.rules.proofs.OrderLaws.{TotalOrder, less≢equal, less≢greater, equal≢greater, no-less-self, turn-less}
+use Rattle.rules.specs.Map.{Map, find, alter, Below, Ascending}
+use Rattle.rules.proofs.OrderLaws.{TotalOrder}
 
 pub none≢some : {A : Type 0} {v : A} → _≡_ {A = Option A} none (some v) → ⊥
 none≢some e = let z : _≡_ {A = ℕ} 0 1 = cc in omega arith

@@ -1,8 +1,7 @@
 -- Numbers and pieces in a list of bytes. "All numbers big-endian."
-use mathlib.Core.Bool.{Bool, _&&_}
 use mathlib.Core.List.{List, [], _∷_, _++_}
 use Prim.Native.Nat.{ℕ, zero, suc, _+_, _*_, _/_, _%_, _<_}
-use lib.ListN.{take, drop, length}
+use lib.ListN.{take, drop}
 
 -- a number's last n bytes, the heaviest first
 unfoldable pub be : ℕ → ℕ → List ℕ

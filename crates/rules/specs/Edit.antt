@@ -1,11 +1,10 @@
 -- "Ordinary edit", and the refusals 9 to 11.
-use mathlib.Core.Bool.{Bool, true, false, not, _&&_, _||_}
+use mathlib.Core.Bool.{Bool, false, not, _&&_, _||_}
 use mathlib.Core.List.{List, [], _∷_, _++_}
 use mathlib.Core.Option.{Option, none, some}
-use Prim.Native.Nat.{ℕ, zero, suc}
+use Prim.Native.Nat.{suc}
 use lib.Dec.{eqb}
 use Rattle.rules.specs.declared.Content.{Content}
-use Rattle.rules.specs.declared.Content.the-variants.{Live, Deleted}
 use Rattle.rules.specs.declared.Edited.{Edited}
 use Rattle.rules.specs.declared.Edited.the-variants.{Accepted, Refused}
 use Rattle.rules.specs.declared.Refusal.{Refusal}
@@ -15,8 +14,8 @@ use Rattle.rules.specs.declared.RevNumber.{RevNumber}
 use Rattle.rules.specs.Choice.{pick, maybe, firstThat}
 use Rattle.rules.specs.Map.{find}
 use Rattle.rules.specs.Order.{orderRev}
-use Rattle.rules.specs.Read.{winner, isDeletion, parentIn}
-use Rattle.rules.specs.Replica.{Id, Hash, revision, Node, Tree, Document, Replica, documentOf, treeOf}
+use Rattle.rules.specs.Read.{winner, isDeletion}
+use Rattle.rules.specs.Replica.{Id, Hash, revision, Node, Tree, Replica, documentOf, treeOf}
 use Rattle.rules.specs.Room.{last}
 use Rattle.rules.specs.Write.{Write, added, badId, isNone, roomRefusals, settle}
 

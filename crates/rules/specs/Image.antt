@@ -4,7 +4,7 @@ use mathlib.Core.Bool.{Bool, true, false, not, _&&_, _||_}
 use mathlib.Core.List.{List, [], _∷_, _++_, map}
 use mathlib.Core.Option.{Option, none, some}
 use Prim.Native.Nat.{ℕ, zero, suc, pred, _+_, _-_, _*_, max}
-use lib.Dec.{eqb, leb, ltb}
+use lib.Dec.{eqb, ltb}
 use lib.ListN.{length, take, drop, replicate, getD}
 use Rattle.rules.specs.declared.Answered.{Answered}
 use Rattle.rules.specs.declared.Content.{Content}
@@ -19,9 +19,8 @@ use Rattle.rules.specs.Choice.{pick, orElse, maybe, any, firstThat}
 use Rattle.rules.specs.Map.{Map}
 use Rattle.rules.specs.Order.{orderBytes, orderRev, isLess, sameRev}
 use Rattle.rules.specs.Read.{contentKind, contentLabel, reads}
-use Rattle.rules.specs.Replica.{Id, Hash, revision, Node, Tree, Document, Replica, revisionsHeld}
+use Rattle.rules.specs.Replica.{Id, Hash, revision, Node, Document, Replica, revisionsHeld}
 use Rattle.rules.specs.Room.{documentsMost, revisionsMost, idMost, hashSize}
-use Rattle.rules.specs.Write.{isNone}
 
 abbrev pub edition : ℕ
 edition = 1

@@ -1,8 +1,8 @@
 -- "Reading": winner, leaves, conflicts, path, missing, changes.
-use mathlib.Core.Bool.{Bool, true, false, not, _&&_, _||_}
+use mathlib.Core.Bool.{Bool, true, false, not, _&&_}
 use mathlib.Core.List.{List, [], _∷_, _++_, map}
 use mathlib.Core.Option.{Option, none, some}
-use Prim.Native.Nat.{ℕ, zero, suc, pred, _+_, _-_, _*_, _/_, _%_}
+use Prim.Native.Nat.{ℕ, zero, suc, _+_, _/_, _%_}
 use lib.Dec.{eqb, leb, ltb}
 use lib.ListN.{length, take, drop}
 use Rattle.rules.specs.declared.Answered.{Answered}
@@ -18,7 +18,7 @@ use Rattle.rules.specs.declared.Refusal.{Refusal}
 use Rattle.rules.specs.declared.Refusal.the-variants.{BadId, NoDocument, NoRevision, ShortBuffer, BadAsked}
 use Rattle.rules.specs.declared.Revision.{Revision}
 use Rattle.rules.specs.declared.Seq.{Seq}
-use Rattle.rules.specs.Bytes.{be, value, part, pieces, join}
+use Rattle.rules.specs.Bytes.{be, value, pieces, join}
 use Rattle.rules.specs.Choice.{pick, maybe, firstThat}
 use Rattle.rules.specs.Map.{Map, find}
 use Rattle.rules.specs.Order.{orderN, orderRev, andThen, isLess, sameRev}

@@ -1,5 +1,5 @@
 -- The limits. "Room: 32 documents and 512 revisions in all documents together."
-use Prim.Native.Nat.{ℕ, _+_, _*_}
+use Prim.Native.Nat.{ℕ}
 
 abbrev pub documentsMost : ℕ
 documentsMost = 32

@@ -2,7 +2,7 @@
 use mathlib.Core.Bool.{Bool, true, false, not, _&&_, _||_}
 use mathlib.Core.List.{List, [], _∷_, _++_}
 use mathlib.Core.Option.{Option, none, some}
-use Prim.Native.Nat.{ℕ, zero, suc, pred, _+_, _/_, _%_}
+use Prim.Native.Nat.{ℕ, suc, pred, _+_, _/_, _%_}
 use lib.Dec.{eqb, leb, ltb}
 use lib.ListN.{length}
 use Rattle.rules.specs.declared.Content.{Content}
@@ -19,7 +19,7 @@ use Rattle.rules.specs.Bytes.{pieces}
 use Rattle.rules.specs.Choice.{pick, orElse, maybe, any, firstThat}
 use Rattle.rules.specs.Map.{find, alter}
 use Rattle.rules.specs.Order.{orderBytes, orderRev, sameRev}
-use Rattle.rules.specs.Replica.{Id, Hash, revision, Node, Tree, Document, Replica, documentOf, treeOf, revisionsHeld}
+use Rattle.rules.specs.Replica.{Id, Hash, revision, Node, Tree, Replica, documentOf, treeOf, revisionsHeld}
 use Rattle.rules.specs.Room.{documentsMost, revisionsMost, hashesMost, idMost, hashSize, last}
 
 -- "A path write gives an id, a number, one or more hashes newest first, and the content of the

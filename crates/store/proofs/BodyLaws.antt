@@ -1,30 +1,27 @@
 -- A document's rows are its tree. Assumes nothing.
-use mathlib.Core.Path.{_≡_, refl, sym, ap, ap₂, _∙_}
-use mathlib.Core.Option.{Option, none, some}
+use mathlib.Core.Path.{_≡_, refl, sym, ap, _∙_}
 use Prim.Native.Nat.{ℕ, zero, suc, _+_, _*_, _<_, _≤_, _-_}
 use native.Mathlib.Nat.{not-suc-le-zero, le-of-suc-le-suc}
 use native.Mathlib.Omega.{arith}
 use mathlib.Core.List.{List, [], _∷_, _++_, map, append-assoc}
-use lib.ListN.{length, take, drop, getD, replicate}
+use lib.ListN.{length, take, drop, replicate}
 use lib.Seq.{drop-at, drop-drop}
 use Rattle.rules.specs.declared.Revision.{Revision}
 use Rattle.rules.specs.Bytes.{pieces, join}
 use Rattle.rules.specs.Image.{rowSize, rowBytes, rowOf, nodeIn}
 use Rattle.rules.specs.Map.{Map}
-use Rattle.rules.specs.Replica.{Id, Node, Tree, Document, Replica, treeOf, treeIn, documentOf, revisionsHeld}
+use Rattle.rules.specs.Replica.{Id, Node, Document, Replica, treeOf, documentOf, revisionsHeld}
 use Rattle.rules.specs.Room.{documentsMost, revisionsMost}
 use Rattle.rules.proofs.ByteLaws.{length-join, pieces-join, join-append}
-use Rattle.tree.specs.declared.table.Found.{Found}
 use Rattle.tree.specs.declared.table.Found.the-variants.{At, Gap}
 use Rattle.tree.specs.Rows.{FitsRow}
 use Rattle.tree.specs.Table.{treeAt}
-use Rattle.tree.proofs.RowLaws.{row-back}
 use Rattle.store.specs.declared.read.Body.{Body}
 use Rattle.store.specs.Storage.{rowsRoom, rowsPlace, storeSize, filled, rowsIn, storedRows, stored, replicaOf, All, FitsDocument, Storable, Laid}
-use Rattle.store.specs.Documents.{documentsOf, noDocument, documentAt, firstRow, rowPlace, placeOfId, HasDocument, IsBody, Shows}
+use Rattle.store.specs.Documents.{documentsOf, documentAt, firstRow, rowPlace, placeOfId, IsBody, Shows, IsBodyOf}
 use Rattle.store.proofs.StoredLaws.{length-map, map-append, length-rowsIn, rows-sized, fit-rows, past-contents, tree-back}
-use Rattle.store.proofs.EntryLaws.{document-fits, Standing, standing, EntryHeld, entry-held}
-use Rattle.store.proofs.PlaceLaws.{IsAt, IsGap, id-found, id-gap}
+use Rattle.store.proofs.EntryLaws.{document-fits, standing, entry-held}
+use Rattle.store.proofs.PlaceLaws.{id-found, id-gap}
 
 -- the rows before a document, its own, and those after it
 pub rows-split : (ds : Map Id Document) (d : ℕ) → d < length ds → rowsIn ds ≡ rowsIn (take d ds) ++ (documentAt ds d .1 .tree ++ rowsIn (drop (suc d) ds))
@@ -75,19 +72,21 @@ body-shows s d b h =
       tree = rw (h .base, h .rows) (ap (treeAt (rowPlace (firstRow (documentsOf s) d)) (length (documentAt (documentsOf s) d .1 .tree))) (l .same) ∙ body-stored r d (l .fits) (h .document .within));
     }
 
-pub found-shows : (s : List ℕ) (i : Id) (d : ℕ) (b : Body) → placeOfId 0 i (documentsOf s) ≡ At d → IsBody s d b → Shows s b (treeOf (replicaOf s) i)
+pub found-body : (s : List ℕ) (i : Id) (d : ℕ) (b : Body) → placeOfId 0 i (documentsOf s) ≡ At d → IsBody s d b → IsBodyOf s i b
 unfolding treeOf documentOf
-found-shows s i d b e h =
+found-body s i d b e h =
     let w = body-shows s d b h in
     let f = id-found d i (documentsOf s) e in
-    record { within = w .within; tree = w .tree ∙ rw (f .found) }
+    let p = h .base in
+    let n = h .rows in
+    record { is = rw e (λ j. record { base = p j; rows = n j }); shows = record { within = w .within; tree = w .tree ∙ rw (f .found) } }
 
-pub absent-shows : (s : List ℕ) (i : Id) (d : ℕ) → Laid s → placeOfId 0 i (documentsOf s) ≡ Gap d → Shows s (record { base = rowsPlace; rows = 0 }) (treeOf (replicaOf s) i)
+pub absent-body : (s : List ℕ) (i : Id) (d : ℕ) → Laid s → placeOfId 0 i (documentsOf s) ≡ Gap d → IsBodyOf s i (record { base = rowsPlace; rows = 0 })
 unfolding treeOf documentOf treeAt pieces
-absent-shows s i d l e =
+absent-body s i d l e =
     let q = standing s l in
     let f = id-gap d i (documentsOf s) e in
-    record { within = omega arith; tree = rw (f .found) }
+    record { is = rw e; shows = record { within = omega arith; tree = rw (f .found) } }
 
 -- where a document's rows stand among the others, in numbers
 pub record BodyStanding (s : List ℕ) (d : ℕ) (b : Body) : Type 0 where

@@ -1,25 +1,22 @@
 -- What the changes do to the bytes. Assumes nothing.
-use mathlib.Core.Path.{_≡_, refl, sym, ap, ap₂, _∙_}
+use mathlib.Core.Path.{_≡_, refl, sym, ap, _∙_}
 use Prim.Native.Nat.{ℕ, zero, suc, _+_, _*_, _<_, _≤_, _-_}
-use native.Mathlib.Nat.{not-suc-le-zero, le-of-suc-le-suc}
 use native.Mathlib.Omega.{arith}
 use mathlib.Core.List.{List, [], _∷_, _++_, map, append-assoc}
-use lib.ListN.{length, take, drop, getD, replicate, set, length-append, length-replicate, replicate-append-replicate}
-use Rattle.rules.specs.declared.Revision.{Revision}
+use lib.ListN.{length, getD, replicate, set, length-append, length-replicate, replicate-append-replicate}
 use Rattle.rules.specs.declared.Seq.{Seq}
 use Rattle.rules.specs.Bytes.{be, part, join}
-use Rattle.rules.specs.Image.{headSize, entrySize, rowSize, entryBytes, rowBytes}
+use Rattle.rules.specs.Image.{headSize, entrySize, entryBytes, rowBytes}
 use Rattle.rules.specs.Map.{Map}
-use Rattle.rules.specs.Replica.{Id, Node, Tree, Document, Replica, fresh, revisionsHeld}
-use Rattle.rules.specs.Room.{documentsMost, revisionsMost, idMost, last}
-use Rattle.rules.proofs.ByteLaws.{length-be, Sized}
+use Rattle.rules.specs.Replica.{Id, Document, Replica, fresh, revisionsHeld}
+use Rattle.rules.specs.Room.{documentsMost, idMost, last}
+use Rattle.rules.proofs.ByteLaws.{length-be}
 use Rattle.octets.specs.Splice.{splice}
 use Rattle.octets.proofs.SpliceLaws.{replace, splice-whole}
-use Rattle.tree.specs.Rows.{FitsRow}
-use Rattle.store.specs.Storage.{contentsRoom, rowsRoom, rowsPlace, storeSize, filled, storedHead, storedEntries, rowsIn, storedRows, stored, replicaOf, All, FitsDocument, Storable, Laid}
-use Rattle.store.specs.Documents.{documentsOf, noDocument, documentAt, firstRow, entryPlace, rowPlace, HasDocument}
+use Rattle.store.specs.Storage.{contentsRoom, rowsRoom, storeSize, filled, storedHead, storedEntries, rowsIn, storedRows, stored, replicaOf, All, FitsDocument, Storable}
+use Rattle.store.specs.Documents.{documentsOf, noDocument, documentAt, entryPlace, HasDocument}
 use Rattle.tree.specs.Table.{insertAt}
-use Rattle.store.specs.Change.{modify, blank, withDocument, setSeq, withSeq, setTree, withTree, Holds, CanAddDocument}
+use Rattle.store.specs.Change.{modify, blank, withDocument, setSeq, withSeq, Holds, CanAddDocument}
 use Rattle.store.proofs.RoundLaws.{length-entry}
 use Rattle.store.proofs.StoredLaws.{length-map, entries-sized, length-head, stored-back, laid-stored, fresh-fits, fresh-stored}
 use Rattle.store.proofs.EntryLaws.{document-fits}

@@ -1,25 +1,23 @@
 -- What is read at a document's entry. Assumes nothing.
-use mathlib.Core.Path.{_≡_, refl, sym, ap, ap₂, _∙_}
+use mathlib.Core.Path.{_≡_, refl, sym, ap, _∙_}
 use Prim.Native.Nat.{ℕ, zero, suc, _+_, _*_, _<_, _≤_, _-_}
 use native.Mathlib.Nat.{add-zero, not-suc-le-zero, le-of-suc-le-suc}
 use native.Mathlib.Numerals.{add-one}
 use native.Mathlib.Omega.{arith}
-use mathlib.Core.List.{List, [], _∷_, _++_, map, append-assoc}
-use lib.ListN.{length, take, drop, getD, length-append, length-drop, List·getD-append, List·getD-map}
-use lib.Seq.{take-at, take-append-le, drop-append-le, drop-append-add, getD-drop, getD-take, take-take}
-use Rattle.rules.specs.declared.Seq.{Seq}
+use mathlib.Core.List.{List, [], _∷_, map, append-assoc}
+use lib.ListN.{length, take, drop, getD, List·getD-map}
+use lib.Seq.{take-at, getD-drop, getD-take}
 use Rattle.rules.specs.Bytes.{value, part, join}
-use Rattle.rules.specs.Image.{Entry, headSize, entrySize, entryBytes, headOf, entryOf}
+use Rattle.rules.specs.Image.{headSize, entrySize, entryBytes, headOf, entryOf}
 use Rattle.rules.specs.Map.{Map}
 use Rattle.rules.specs.Replica.{Id, Document, Replica, revisionsHeld}
 use Rattle.rules.specs.Room.{documentsMost, revisionsMost, idMost, last}
-use Rattle.tree.specs.Rows.{FitsRow}
-use Rattle.store.specs.Storage.{contentsRoom, rowsRoom, rowsPlace, storeSize, filled, storedHead, storedEntries, storedRows, stored, replicaOf, All, FitsDocument, Storable, Laid}
+use Rattle.store.specs.Storage.{rowsRoom, storeSize, filled, storedHead, storedEntries, storedRows, stored, replicaOf, All, FitsDocument, Storable, Laid}
 use Rattle.store.specs.Documents.{documentsOf, noDocument, documentAt, firstRow, entryPlace, HasDocument}
 use Rattle.rules.proofs.ByteLaws.{part-past}
 use Rattle.store.proofs.PieceLaws.{part-piece}
-use Rattle.store.proofs.RoundLaws.{EntryFields, length-entry, entry-fields}
-use Rattle.store.proofs.StoredLaws.{length-map, entries-sized, length-head, size-laid, size-entries, documents-stored, revisions-stored, seq-stored}
+use Rattle.store.proofs.RoundLaws.{EntryFields, entry-fields}
+use Rattle.store.proofs.StoredLaws.{length-map, entries-sized, length-head, size-laid, documents-stored, revisions-stored, seq-stored}
 
 pub all-at : {A : Type 0} (P : A → Type 0) (xs : List A) (i : ℕ) (x : A) → All P xs → i < length xs → P (getD xs i x)
 all-at P [] i x h l = absurd (not-suc-le-zero l)

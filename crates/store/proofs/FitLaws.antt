@@ -1,18 +1,17 @@
 -- A replica can be laid out. Assumes nothing.
 use mathlib.Core.Path.{_≡_, refl, sym, ap, _∙_}
 use mathlib.Core.Option.{Option, none, some}
-use Prim.Native.Nat.{ℕ, zero, suc, pred, _+_, _<_, _≤_, max}
+use Prim.Native.Nat.{ℕ, pred, _≤_}
 use native.Mathlib.Omega.{arith}
 use mathlib.Core.List.{List, [], _∷_}
-use lib.ListN.{length}
 use Rattle.rules.specs.declared.Content.{Content}
 use Rattle.rules.specs.declared.Order.{Order}
 use Rattle.rules.specs.declared.Order.the-variants.{Less, Equal, Greater}
 use Rattle.rules.specs.declared.Revision.{Revision}
 use Rattle.rules.specs.Map.{Map, find, Below, Ascending}
-use Rattle.rules.specs.Order.{orderBytes, orderRev}
-use Rattle.rules.specs.Replica.{Id, Node, Tree, Document, Replica, documentOf, largestSeq, HasContent, IsRevision, IsTree, IsDocument, IsReplica}
-use Rattle.rules.specs.Room.{last, hashSize}
+use Rattle.rules.specs.Order.{orderRev}
+use Rattle.rules.specs.Replica.{Id, Node, Tree, Document, Replica, documentOf, largestSeq, IsTree, IsDocument, IsReplica}
+use Rattle.rules.specs.Room.{last}
 use Rattle.rules.proofs.OrderLaws.{TotalOrder, bytesOrder, revOrder}
 use Rattle.rules.proofs.MapLaws.{none≢some, find-eq, find-gt, find-below}
 use Rattle.tree.specs.Rows.{FitsParent, FitsContent, FitsRow}

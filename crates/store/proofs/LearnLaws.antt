@@ -1,33 +1,32 @@
 -- What is known of a revision once a row is learnt. Assumes nothing.
 use mathlib.Core.Path.{_≡_, refl, sym, ap, _∙_}
-use mathlib.Core.Bool.{Bool, true, false}
-use mathlib.Core.Option.{Option, none, some}
-use Prim.Native.Nat.{ℕ, zero, suc, pred, _+_, _*_, _<_, _≤_}
+use mathlib.Core.Bool.{true, false}
+use mathlib.Core.Option.{some}
+use Prim.Native.Nat.{ℕ, pred, _+_, _*_, _<_}
 use native.Mathlib.Omega.{arith}
-use mathlib.Core.List.{List, [], _∷_}
-use lib.ListN.{length, getD, set, length-set}
-use Rattle.rules.specs.declared.Content.{Content}
+use mathlib.Core.List.{List}
+use lib.ListN.{getD, set, length-set}
 use Rattle.rules.specs.declared.Revision.{Revision}
 use Rattle.rules.specs.Image.{rowSize}
-use Rattle.rules.specs.Map.{Map, find, alter, Ascending}
+use Rattle.rules.specs.Map.{alter}
 use Rattle.rules.specs.Order.{orderRev}
-use Rattle.rules.specs.Replica.{Id, revision, Node, Tree, Document, Replica, revisionsHeld}
+use Rattle.rules.specs.Replica.{revision, Node, Tree}
 use Rattle.rules.specs.Write.{keeps, learn}
 use Rattle.tree.specs.declared.row.Kind.{Kind}
 use Rattle.tree.specs.declared.row.Row.{Row}
 use Rattle.tree.specs.declared.table.Found.{Found}
 use Rattle.tree.specs.declared.table.Found.the-variants.{At, Gap}
-use Rattle.tree.specs.Rows.{contentOf, parentOf, meaning, rowAt, nodeAt}
+use Rattle.tree.specs.Rows.{contentOf, parentOf, meaning, rowAt}
 use Rattle.tree.specs.Table.{treeAt, placeOf, insertAt, Searchable}
 use Rattle.tree.proofs.RowLaws.{row-at-means}
-use Rattle.tree.proofs.TableLaws.{noRow, length-tree, tree-row}
+use Rattle.tree.proofs.TableLaws.{noRow, tree-row}
 use Rattle.tree.proofs.PlaceLaws.{Is, IsNot, place-at, place-gap}
 use Rattle.store.specs.declared.read.Body.{Body}
 use Rattle.store.specs.Storage.{replicaOf}
-use Rattle.store.specs.Documents.{documentsOf, documentAt, IsBody, Shows}
-use Rattle.store.specs.Change.{modify, setTree, withTree, Holds, CanInsertRow, CanSetRow, CanLearn, Learnt}
+use Rattle.store.specs.Documents.{documentsOf, documentAt, Shows}
+use Rattle.store.specs.Change.{withTree, Holds, CanInsertRow, CanLearn, Learnt}
 use Rattle.store.proofs.TableLaws.{length-insert}
-use Rattle.store.proofs.BodyLaws.{BodyStanding, body-standing, body-shows}
+use Rattle.store.proofs.BodyLaws.{body-shows}
 use Rattle.store.proofs.RowChangeLaws.{body-after, tree-same}
 
 -- ---- merging two rows of one revision
@@ -60,9 +59,9 @@ module _ (s : List ℕ) (d : ℕ) (b : Body) (row : Row) (h : CanLearn s d b (me
       let w = shows .within in
       record { within = omega arith; ascending = rw (shows .tree) (h .ascending) }
 
-  module _ (i : ℕ) (e : placeOf 0 v (treeAt (b .base) (b .rows) s) ≡ At i) where
+  module _ (i : ℕ) (found : Found) (p : found ≡ placeOf 0 v (treeAt (b .base) (b .rows) s)) (q : found ≡ At i) where
     is : Is i v t
-    is = place-at i v t (rw (shows .tree) at e)
+    is = place-at i v t (rw (shows .tree) at (sym p ∙ q))
 
     pub found-within : i < b .rows
     found-within = let w = is .within in omega (arith, h .body .rows)
@@ -79,15 +78,15 @@ module _ (s : List ℕ) (d : ℕ) (b : Body) (row : Row) (h : CanLearn s d b (me
     pub learnt-at : (s₁ : List ℕ) (x : Revision × Node) → x ≡ (v, learn (meaning row .1) (some (meaning (rowAt (b .base + i * rowSize) s) .1)))
         → Holds (withTree d (λ u. set u i x) (replicaOf s)) s₁ → Learnt s d (meaning row) b s₁
     unfolding meaning
-    learnt-at s₁ x q k =
-        let n : x ≡ (v, learn (meaning row .1) (some (getD t i noRow .1))) = q ∙ ap (λ (y : Revision × Node). (v, learn (meaning row .1) (some (y .1)))) held-means in
+    learnt-at s₁ x m k =
+        let n : x ≡ (v, learn (meaning row .1) (some (getD t i noRow .1))) = m ∙ ap (λ (y : Revision × Node). (v, learn (meaning row .1) (some (y .1)))) held-means in
         let a : set t i x ≡ alter orderRev v (learn (meaning row .1)) t = rw n (sym (is .altered (learn (meaning row .1)))) in
         let w = tree-same (replicaOf s) d (λ u. set u i x) (alter orderRev v (learn (meaning row .1))) a in
         record { holds = rw w at k; body = body-after s s₁ d b b (λ u. set u i x) (h .body) k refl (h .body .rows ∙ sym (length-set t i x)) }
 
-  module _ (i : ℕ) (e : placeOf 0 v (treeAt (b .base) (b .rows) s) ≡ Gap i) where
+  module _ (i : ℕ) (found : Found) (p : found ≡ placeOf 0 v (treeAt (b .base) (b .rows) s)) (q : found ≡ Gap i) where
     is-not : IsNot i v t
-    is-not = place-gap i v t (rw (shows .tree) at e)
+    is-not = place-gap i v t (rw (shows .tree) at (sym p ∙ q))
 
     pub can-insert : CanInsertRow s d b i
     unfolding meaning
@@ -97,8 +96,8 @@ module _ (s : List ℕ) (d : ℕ) (b : Body) (row : Row) (h : CanLearn s d b (me
 
     pub learnt-gap : (s₁ : List ℕ) (b₁ : Body) → b₁ .base ≡ b .base → b₁ .rows ≡ b .rows + 1 → Holds (withTree d (insertAt i (meaning row)) (replicaOf s)) s₁ → Learnt s d (meaning row) b₁ s₁
     unfolding meaning
-    learnt-gap s₁ b₁ p n k =
+    learnt-gap s₁ b₁ o n k =
         let a : insertAt i (meaning row) t ≡ alter orderRev v (learn (meaning row .1)) t = sym (is-not .altered (learn (meaning row .1))) in
         let w = tree-same (replicaOf s) d (insertAt i (meaning row)) (alter orderRev v (learn (meaning row .1))) a in
         let m = length-insert i (meaning row) t (is-not .within) in
-        record { holds = rw w at k; body = body-after s s₁ d b b₁ (insertAt i (meaning row)) (h .body) k p (omega (arith, h .body .rows)) }
+        record { holds = rw w at k; body = body-after s s₁ d b b₁ (insertAt i (meaning row)) (h .body) k o (omega (arith, h .body .rows)) }

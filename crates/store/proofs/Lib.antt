@@ -10,3 +10,5 @@ pub mod PlaceLaws
 pub mod BodyLaws
 pub mod RowChangeLaws
 pub mod LearnLaws
+pub mod AddedLaws
+pub mod Outcomes

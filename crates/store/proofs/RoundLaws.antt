@@ -1,23 +1,16 @@
 -- An entry is read back. Assumes nothing.
-use mathlib.Core.Path.{_≡_, refl, sym, ap, ap₂, _∙_}
-use mathlib.Core.Option.{Option, none, some}
-use Prim.Native.Nat.{ℕ, zero, suc, pred, _+_, _*_, _<_, _≤_, _-_, _^_}
+use mathlib.Core.Path.{_≡_, refl, sym, ap, _∙_}
+use Prim.Native.Nat.{ℕ, suc, _+_, _≤_, _-_}
 use native.Mathlib.Omega.{arith}
-use mathlib.Core.List.{List, [], _∷_, _++_, map, append-assoc}
-use lib.ListN.{length, take, drop, getD, replicate, length-append, length-replicate}
-use lib.Seq.{take-at, drop-at}
-use Rattle.rules.specs.declared.Content.{Content}
-use Rattle.rules.specs.declared.Content.the-variants.{Live, Deleted}
-use Rattle.rules.specs.declared.Revision.{Revision}
-use Rattle.rules.specs.Bytes.{be, value, part, pieces, join}
-use Rattle.rules.specs.Image.{Row, Entry, Head, headSize, entrySize, rowSize, entryBytes, rowBytes, kindOf, labelOf, flagOf, parentHash, headOf, entryOf, rowOf, entriesOf, deal, parentOfRow, contentOfKind, nodeIn, documentsIn}
-use Rattle.rules.specs.Map.{Map}
-use Rattle.rules.specs.Replica.{Id, Node, Tree, Document, Replica, IsContent, revisionsHeld}
-use Rattle.rules.specs.Room.{documentsMost, revisionsMost, idMost, hashSize, last}
-use Rattle.tree.specs.Rows.{FitsParent, FitsContent, FitsRow}
-use Rattle.store.specs.Storage.{contentsRoom, rowsRoom, rowsPlace, storeSize, filled, storedHead, storedEntries, rowsIn, storedRows, stored, rowsHeld, replicaOf, All, FitsDocument, Storable, Laid}
-use Rattle.rules.proofs.ByteLaws.{length-be, value-be, part-past, part-front, part-whole, getD-past}
-use Rattle.store.proofs.PieceLaws.{drop-past, number-front}
+use mathlib.Core.List.{List, _∷_, _++_, append-assoc}
+use lib.ListN.{length, take, replicate, length-append, length-replicate}
+use lib.Seq.{take-at}
+use Rattle.rules.specs.Bytes.{be, value, part}
+use Rattle.rules.specs.Image.{Entry, entrySize, entryBytes, entryOf}
+use Rattle.rules.specs.Replica.{Id, Document}
+use Rattle.rules.specs.Room.{revisionsMost, idMost, last}
+use Rattle.rules.proofs.ByteLaws.{length-be, part-past, part-front}
+use Rattle.store.proofs.PieceLaws.{number-front}
 
 -- ---- an entry
 

@@ -4,14 +4,14 @@ use Prim.Native.Nat.{ℕ, zero, suc, _+_, _*_, _<_, _≤_, _-_}
 use native.Mathlib.Nat.{not-suc-le-zero, le-of-suc-le-suc, zero-add, suc-add, add-assoc}
 use native.Mathlib.Omega.{arith}
 use mathlib.Core.List.{List, [], _∷_, _++_, map, append-assoc, append-nil}
-use lib.ListN.{length, take, drop, getD, set, length-append, length-take, length-drop, length-set}
+use lib.ListN.{length, take, drop, getD, set, length-append, length-set}
 use lib.Seq.{set-append-left, take-append-le, drop-append-le}
 use Rattle.rules.specs.declared.Revision.{Revision}
 use Rattle.rules.specs.Bytes.{be, part, join}
-use Rattle.rules.specs.Image.{headSize, entrySize, rowSize, entryBytes, rowBytes}
+use Rattle.rules.specs.Image.{rowSize, entryBytes, rowBytes}
 use Rattle.rules.specs.Map.{Map}
 use Rattle.rules.specs.Replica.{Id, Node, Tree, Document, Replica, revisionsHeld}
-use Rattle.rules.specs.Room.{documentsMost, revisionsMost, idMost, last}
+use Rattle.rules.specs.Room.{revisionsMost, last}
 use Rattle.rules.proofs.ByteLaws.{length-be}
 use Rattle.octets.specs.Splice.{splice}
 use Rattle.octets.proofs.SpliceLaws.{splice-whole}
@@ -19,8 +19,8 @@ use Rattle.tree.specs.Rows.{FitsRow}
 use Rattle.tree.specs.Table.{insertAt, insertBytes}
 use Rattle.tree.proofs.RowLaws.{length-row}
 use Rattle.store.specs.declared.read.Body.{Body}
-use Rattle.store.specs.Storage.{contentsRoom, rowsRoom, rowsPlace, filled, storedHead, storedEntries, rowsIn, storedRows, stored, replicaOf, All, FitsDocument, Storable, Laid}
-use Rattle.store.specs.Documents.{documentsOf, noDocument, documentAt, firstRow, entryPlace, rowPlace, HasDocument, IsBody}
+use Rattle.store.specs.Storage.{contentsRoom, rowsRoom, rowsPlace, filled, storedHead, storedEntries, rowsIn, storedRows, stored, replicaOf, All, FitsDocument, Storable}
+use Rattle.store.specs.Documents.{documentsOf, noDocument, documentAt, firstRow, entryPlace, rowPlace, IsBody}
 use Rattle.store.specs.Change.{modify, setTree, withTree, Holds, CanInsertRow, CanSetRow}
 use Rattle.store.proofs.StoredLaws.{length-map, length-rowsIn, rows-sized, fit-rows, length-head, size-contents}
 use Rattle.store.proofs.EntryLaws.{document-fits, all-at, first-next, first-most}

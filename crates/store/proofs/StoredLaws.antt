@@ -1,17 +1,16 @@
 -- The bytes of a replica hold it, and no other bytes do. Assumes nothing.
-use mathlib.Core.Path.{_≡_, refl, sym, ap, ap₂, _∙_, subst}
-use mathlib.Core.Option.{Option, none, some}
-use Prim.Native.Nat.{ℕ, zero, suc, _+_, _*_, _<_, _≤_, _-_}
+use mathlib.Core.Path.{_≡_, refl, sym, ap, ap₂, _∙_}
+use Prim.Native.Nat.{ℕ, suc, _+_, _*_, _≤_, _-_}
 use native.Mathlib.Omega.{arith}
 use mathlib.Core.List.{List, [], _∷_, _++_, map, append-assoc}
-use lib.ListN.{length, take, drop, getD, replicate, length-append, length-replicate}
+use lib.ListN.{length, take, drop, replicate, length-append, length-replicate}
 use lib.Seq.{take-at, drop-at}
 use Rattle.rules.specs.declared.Revision.{Revision}
-use Rattle.rules.specs.Bytes.{be, valueFrom, value, part, pieces, join}
-use Rattle.rules.specs.Image.{Row, Entry, Head, headSize, entrySize, rowSize, entryBytes, rowBytes, headOf, entryOf, rowOf, entriesOf, deal, nodeIn, documentsIn}
+use Rattle.rules.specs.Bytes.{be, valueFrom, value, part, join}
+use Rattle.rules.specs.Image.{Row, headSize, entrySize, rowSize, entryBytes, rowBytes, headOf, entryOf, rowOf, entriesOf, deal, nodeIn, documentsIn}
 use Rattle.rules.specs.Map.{Map}
 use Rattle.rules.specs.Replica.{Id, Node, Tree, Document, Replica, fresh, revisionsHeld}
-use Rattle.rules.specs.Room.{documentsMost, revisionsMost, idMost, hashSize, last}
+use Rattle.rules.specs.Room.{documentsMost, revisionsMost, last}
 use Rattle.tree.specs.Rows.{FitsRow}
 use Rattle.store.specs.Storage.{contentsRoom, rowsRoom, rowsPlace, storeSize, filled, storedHead, storedEntries, rowsIn, storedRows, stored, rowsHeld, replicaOf, All, FitsDocument, Storable, Laid}
 use Rattle.rules.proofs.ByteLaws.{Sized, length-join, pieces-join}

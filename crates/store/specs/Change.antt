@@ -7,7 +7,7 @@ use Prim.Native.Nat.{ℕ, zero, suc, _≤_, _<_}
 use lib.ListN.{length}
 use Rattle.rules.specs.declared.Revision.{Revision}
 use Rattle.rules.specs.declared.Seq.{Seq}
-use Rattle.rules.specs.Map.{Map, find, alter, Ascending}
+use Rattle.rules.specs.Map.{find, alter, Ascending}
 use Rattle.rules.specs.Order.{orderRev}
 use Rattle.rules.specs.Replica.{Id, Node, Tree, Document, Replica, revisionsHeld}
 use Rattle.rules.specs.Room.{documentsMost, revisionsMost, idMost}
@@ -15,7 +15,7 @@ use Rattle.rules.specs.Write.{learn}
 use Rattle.tree.specs.Table.{insertAt}
 use Rattle.store.specs.declared.read.Body.{Body}
 use Rattle.store.specs.Storage.{stored, replicaOf, Laid}
-use Rattle.store.specs.Documents.{documentsOf, documentAt, HasDocument, IsBody}
+use Rattle.store.specs.Documents.{documentsOf, documentAt, IsBody}
 
 -- the i-th changed by f
 unfoldable pub modify : {A : Type 0} → ℕ → (A → A) → List A → List A

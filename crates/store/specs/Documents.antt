@@ -1,12 +1,12 @@
 -- The documents in a buffer, by their index, and what a caller shows to name one.
 use mathlib.Core.Path.{_≡_}
 use mathlib.Core.List.{List, [], _∷_}
-use Prim.Native.Nat.{ℕ, zero, suc, _+_, _*_, _<_, _≤_}
+use Prim.Native.Nat.{ℕ, suc, _+_, _*_, _<_, _≤_}
 use lib.ListN.{length, getD, take}
 use Rattle.rules.specs.Image.{headSize, entrySize, rowSize}
 use Rattle.rules.specs.Map.{Map, byOrder}
 use Rattle.rules.specs.Order.{orderBytes}
-use Rattle.rules.specs.Replica.{Id, Tree, Document, Replica, revisionsHeld}
+use Rattle.rules.specs.Replica.{Id, Tree, Document, treeOf, revisionsHeld}
 use Rattle.tree.specs.declared.table.Found.{Found}
 use Rattle.tree.specs.declared.table.Found.the-variants.{At, Gap}
 use Rattle.tree.specs.Table.{treeAt}
@@ -54,7 +54,16 @@ pub record IsBody (s : List ℕ) (d : ℕ) (b : Body) : Type 0 where
   pub base : b .base ≡ rowPlace (firstRow (documentsOf s) d)
   pub rows : b .rows ≡ length (documentAt (documentsOf s) d .1 .tree)
 
--- rows that are the tree t
+-- of a document that is absent: no rows
+abbrev pub bodyAt : Map Id Document → Found → Body
+bodyAt ds (At d) = record { base = rowPlace (firstRow ds d); rows = length (documentAt ds d .1 .tree) }
+bodyAt ds (Gap d) = record { base = rowsPlace; rows = 0 }
+
+-- the rows there are the tree t
 pub record Shows (s : List ℕ) (b : Body) (t : Tree) : Type 0 where
   pub within : b .base + b .rows * rowSize ≤ length s
   pub tree : treeAt (b .base) (b .rows) s ≡ t
+
+pub record IsBodyOf (s : List ℕ) (i : Id) (b : Body) : Type 0 where
+  pub is : b ≡ bodyAt (documentsOf s) (placeOfId 0 i (documentsOf s))
+  pub shows : Shows s b (treeOf (replicaOf s) i)

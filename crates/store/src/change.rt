@@ -1,6 +1,12 @@
 // Changes of a replica in a buffer. Each leaves the exact bytes of the changed replica.
+use crate::COUNT_IN;
+use crate::DOCUMENTS_AT;
 use crate::ENTRY;
+use crate::OWN_IN;
+use crate::REVISIONS_AT;
+use crate::ROW;
 use crate::ROWS;
+use crate::SEQUENCE_AT;
 use crate::SIZE;
 use crate::read::Body;
 use crate::read::documents_held;
@@ -46,16 +52,16 @@ pub fn set_sequences(b: &mut [u8], d: usize, q: Seq)
     requires { ⌜ HasDocument (now b) d ⌝ }
     ensures { λ _. ⌜ Holds (withSeq d q (replicaOf (now (b .entry)))) (now (b .exit)) ⌝ }
 {
-    put4(b, entry_place(d) + 36, q.0);
-    put4(b, 8, q.0);
+    put4(b, entry_place(d) + OWN_IN, q.0);
+    put4(b, SEQUENCE_AT, q.0);
 }
 
 // The entry of a document that has no revisions yet.
-fn blank_entry(id: &[u8]) -> [u8; 44]
+fn blank_entry(id: &[u8]) -> [u8; ENTRY]
     requires { ⌜ length (now id) ≤ idMost ⌝ }
     ensures { λ r. ⌜ r ≡ entryBytes 0 (blank (now (id .entry))) ⌝ }
 {
-    let mut t = [0u8; 44];
+    let mut t = [0u8; ENTRY];
     t[0] = id.len() as u8;
     copy_in(&mut t, 1, id);
     t
@@ -71,25 +77,25 @@ pub fn add_document(b: &mut [u8], at: usize, id: &[u8])
     move_up(b, p, (n - at) * ENTRY, ENTRY);
     let t = blank_entry(id);
     copy_in(b, p, &t);
-    put2(b, 2, n + 1);
+    put2(b, DOCUMENTS_AT, n + 1);
 }
 
 // Puts a row in at place i of document d, whose rows stand at `body`.
-pub fn insert_row_in(b: &mut [u8], d: usize, body: Body, i: usize, row: Row)
+fn insert_row_in(b: &mut [u8], d: usize, body: Body, i: usize, row: Row)
     requires { ⌜ CanInsertRow (now b) d body i ⌝ }
     ensures { λ _. ⌜ Holds (withTree d (insertAt i (meaning row)) (replicaOf (now (b .entry)))) (now (b .exit)) ⌝ }
 {
     let base = body.base;
     let rows = body.rows;
     let n = revisions_held(b);
-    let first = (base - ROWS) / 48;
+    let first = (base - ROWS) / ROW;
     insert_row(b, base, n - first, i, row);
-    put2(b, entry_place(d) + 34, rows + 1);
-    put2(b, 4, n + 1);
+    put2(b, entry_place(d) + COUNT_IN, rows + 1);
+    put2(b, REVISIONS_AT, n + 1);
 }
 
 // Puts a row in the place of row i of document d, whose rows stand at `body`.
-pub fn set_row_in(b: &mut [u8], d: usize, body: Body, i: usize, row: Row)
+fn set_row_in(b: &mut [u8], d: usize, body: Body, i: usize, row: Row)
     requires { ⌜ CanSetRow (now b) d body i ⌝ }
     ensures { λ _. ⌜ Holds (withTree d (λ t. set t i (meaning row)) (replicaOf (now (b .entry)))) (now (b .exit)) ⌝ }
 {

@@ -13,6 +13,20 @@ const HEAD: usize = 16;
 
 const ENTRY: usize = 44;
 
-pub const ROWS: usize = HEAD + ENTRY * DOCUMENTS;
+const ROW: usize = 48;
 
-pub const SIZE: usize = ROWS + 48 * REVISIONS;
+const ROWS: usize = HEAD + ENTRY * DOCUMENTS;
+
+const SIZE: usize = ROWS + ROW * REVISIONS;
+
+// Where the head has its counts and the update sequence.
+const DOCUMENTS_AT: usize = 2;
+
+const REVISIONS_AT: usize = 4;
+
+const SEQUENCE_AT: usize = 8;
+
+// Where an entry has its count of rows and its document's sequence.
+const COUNT_IN: usize = 34;
+
+const OWN_IN: usize = 36;

@@ -1,7 +1,13 @@
 // What a replica in a buffer holds.
+use crate::COUNT_IN;
+use crate::DOCUMENTS_AT;
 use crate::ENTRY;
 use crate::HEAD;
+use crate::OWN_IN;
+use crate::REVISIONS_AT;
+use crate::ROW;
 use crate::ROWS;
+use crate::SEQUENCE_AT;
 use octets::number::get2;
 use octets::number::get4;
 use octets::order::order_bytes;
@@ -11,10 +17,10 @@ use tree::table::Found;
 ghost use mathlib.Core.Path.{_≡_};
 ghost use Prim.Native.Nat.{ℕ, _+_, _*_, _<_, _≤_};
 ghost use lib.ListN.{length};
-ghost use Rattle.rules.specs.Replica.{revisionsHeld, treeOf};
+ghost use Rattle.rules.specs.Replica.{revisionsHeld};
 ghost use Rattle.rules.specs.Room.{documentsMost};
 ghost use Rattle.store.specs.Storage.{replicaOf, Laid};
-ghost use Rattle.store.specs.Documents.{documentsOf, documentAt, firstRow, entryPlace, placeOfId, HasDocument, IsBody, Shows};
+ghost use Rattle.store.specs.Documents.{documentsOf, documentAt, firstRow, entryPlace, placeOfId, HasDocument, IsBody, IsBodyOf};
 
 // The rows of one document: where they begin, and how many they are.
 pub struct Body {
@@ -26,21 +32,21 @@ pub fn documents_held(b: &[u8]) -> usize
     requires { ⌜ Laid (now b) ⌝ }
     ensures { λ r. ⌜ r ≡ length (documentsOf (now (b .entry))) ⌝ }
 {
-    get2(b, 2)
+    get2(b, DOCUMENTS_AT)
 }
 
 pub fn revisions_held(b: &[u8]) -> usize
     requires { ⌜ Laid (now b) ⌝ }
     ensures { λ r. ⌜ r ≡ revisionsHeld (documentsOf (now (b .entry))) ⌝ }
 {
-    get2(b, 4)
+    get2(b, REVISIONS_AT)
 }
 
 pub fn update_sequence(b: &[u8]) -> Seq
     requires { ⌜ Laid (now b) ⌝ }
     ensures { λ r. ⌜ r ≡ replicaOf (now (b .entry)) .seq ⌝ }
 {
-    Seq(get4(b, 8))
+    Seq(get4(b, SEQUENCE_AT))
 }
 
 // Where the entry of document d begins.
@@ -56,7 +62,7 @@ pub fn own_sequence(b: &[u8], d: usize) -> Seq
     requires { ⌜ HasDocument (now b) d ⌝ }
     ensures { λ r. ⌜ r ≡ documentAt (documentsOf (now (b .entry))) d .1 .seq ⌝ }
 {
-    Seq(get4(b, entry_place(d) + 36))
+    Seq(get4(b, entry_place(d) + OWN_IN))
 }
 
 // How many revisions document d has.
@@ -64,11 +70,11 @@ pub fn row_count(b: &[u8], d: usize) -> usize
     requires { ⌜ HasDocument (now b) d ⌝ }
     ensures { λ r. ⌜ r ≡ length (documentAt (documentsOf (now (b .entry))) d .1 .tree) ⌝ }
 {
-    get2(b, entry_place(d) + 34)
+    get2(b, entry_place(d) + COUNT_IN)
 }
 
 // The index of document d's first row.
-pub fn first_row(b: &[u8], d: usize) -> usize
+fn first_row(b: &[u8], d: usize) -> usize
     requires { ⌜ HasDocument (now b) d ⌝ }
     ensures { λ r. ⌜ r ≡ firstRow (documentsOf (now (b .entry))) d ⌝ }
 {
@@ -123,15 +129,15 @@ pub fn body_of(b: &[u8], d: usize) -> Body
     let first = first_row(b, d);
     let rows = row_count(b, d);
     Body {
-        base: ROWS + first * 48,
+        base: ROWS + first * ROW,
         rows,
     }
 }
 
 // The rows of the document `id`, none where it is absent.
-pub fn tree_of(b: &[u8], id: &[u8]) -> Body
+pub fn body_of_id(b: &[u8], id: &[u8]) -> Body
     requires { ⌜ Laid (now b) ⌝ }
-    ensures { λ r. ⌜ Shows (now (b .entry)) r (treeOf (replicaOf (now (b .entry))) (now (id .entry))) ⌝ }
+    ensures { λ r. ⌜ IsBodyOf (now (b .entry)) (now (id .entry)) r ⌝ }
 {
     match find_document(b, id) {
         Found::At(d) => body_of(b, d),

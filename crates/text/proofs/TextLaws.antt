@@ -6,14 +6,13 @@ use mathlib.Core.Logic.{_⊎_, inl, inr}
 use Prim.Native.Nat.{ℕ, zero, suc, _+_, _*_, _/_, _%_, _≤_, _<_}
 use native.Mathlib.Omega.{arith}
 use native.Mathlib.Numerals.{add-one}
-use lib.Dec.{eqb, ltb}
-use lib.ListN.{length, take, drop, getD, set, length-append, length-take}
+use lib.Dec.{eqb}
+use lib.ListN.{length, take, getD, set, length-append, length-take}
 use Rattle.octets.specs.Splice.{splice}
 use Rattle.octets.proofs.SpliceLaws.{splice-behind, splice-none, length-splice}
 use Rattle.text.specs.Text.{Put}
 use lib.Seq.{take-suc}
-use borrow.Author.Tests.{eq-eqb, ne-eqb, eqb-true, eqb-false}
-use Rattle.rules.specs.Choice.{pick}
+use borrow.Author.Tests.{ne-eqb, eqb-true}
 use Rattle.rules.specs.Report.{digits, trim, decimal, hexDigit, hex}
 
 -- a number of at most n decimal digits

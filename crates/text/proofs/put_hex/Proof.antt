@@ -1,13 +1,13 @@
 -- `text::put_hex` meets its contract. Assumes nothing.
 use mathlib.Core.Path.{_≡_, refl, sym, ap, _∙_}
-use Prim.Native.Nat.{ℕ, _+_, _*_, _-_, _≤_, _<_}
+use Prim.Native.Nat.{ℕ, _+_, _*_, _-_, _≤_}
 use native.Mathlib.Omega.{arith}
 use mathlib.Core.List.{List}
 use lib.Seq.{take-length}
-use lib.ListN.{length, take, length-append, length-set}
+use lib.ListN.{length, take, length-set}
 use Rattle.rules.specs.Report.{hex}
 use Rattle.octets.specs.Splice.{splice}
-use Rattle.octets.proofs.SpliceLaws.{length-splice, splice-none, splice-behind}
+use Rattle.octets.proofs.SpliceLaws.{splice-none}
 use Rattle.text.proofs.TextLaws.{hex-step, length-hex}
 use borrow.Author.Needs.{needs}
 use Rattle.text.proofs.put_hex.Statement.{statement}

@@ -1,68 +1,64 @@
 -- `change::add_document` meets its contract. Assumes nothing.
 use Rattle.octets.specs.Splice.{splice}
-use mathlib.Core.Path.{_≡_, refl, sym, ap, _∙_}
+use mathlib.Core.Path.{refl, ap, _∙_}
 use native.Mathlib.Omega.{arith}
-use Rattle.store.proofs.EntryLaws.{Standing, standing}
+use Rattle.store.proofs.EntryLaws.{standing}
 use Rattle.store.proofs.ChangeLaws.{document-holds, length-blank}
 use borrow.Author.Needs.{needs}
 use Rattle.store.proofs.change.add_document.Statement.{statement}
 use Rattle.store.proofs.change.add_document.Tie as tie
-use Rattle.store.proofs.change.add_document.Reads as reads
-use Rattle.store.proofs.change.add_document.Lts as lts
-use Rattle.octets.proofs.number.put2.Reads as put2-reads
-use Rattle.octets.proofs.run.copy_in.Reads as copy-in-reads
-use Rattle.octets.proofs.run.move_up.Reads as move-up-reads
-use Rattle.store.proofs.change.blank_entry.Reads as blank-entry-reads
-use Rattle.store.proofs.read.documents_held.Reads as documents-held-reads
-use Rattle.store.proofs.read.entry_place.Reads as entry-place-reads
 
--- src/change.rt:55:9
 documents-held-requires : tie.Need-documents-held-requires
 documents-held-requires c κs = (c .before .before .before) .pre .laid
 
--- src/change.rt:56:9
 entry-place-requires : tie.Need-entry-place-requires
-entry-place-requires c κs = let q = standing _ ((c .before .before .before .before) .pre .laid) in omega (arith, (c .before .before .before .before) .pre .place)
+entry-place-requires c κs =
+    let q = standing _ ((c .before .before .before .before) .pre .laid) in
+    omega (arith, (c .before .before .before .before) .pre .place)
 
--- src/change.rt:57:20
 sub-move-up : tie.Need-sub-move-up
-sub-move-up c = omega (arith, (c .before .before .before .before .before .before) .pre .place, (c .before .before .documents-held) .ensures)
+sub-move-up c =
+    omega (arith, (c .before .before .before .before .before .before) .pre .place, (c .before .before .documents-held) .ensures)
 
--- src/change.rt:57:19
 mul-move-up : tie.Need-mul-move-up
-mul-move-up c = let q = standing _ ((c .before .before .before .before .before .before) .pre .laid) in omega (arith, (c .before .before .before .before .before .before) .pre .place, (c .before .before .documents-held) .ensures)
+mul-move-up c =
+    let q = standing _ ((c .before .before .before .before .before .before) .pre .laid) in
+    omega (arith, (c .before .before .before .before .before .before) .pre .place, (c .before .before .documents-held) .ensures)
 
--- src/change.rt:57:5
 move-up-requires : tie.Need-move-up-requires
-move-up-requires c κs = let q = standing _ ((c .before .before .before .before .before .before) .pre .laid) in omega (arith, (c .before .before .before .before .before .before) .pre .place, (c .before .before .before .before .before .before) .pre .room, (c .before .before .documents-held) .ensures, (c .before .entry-place) .ensures)
+move-up-requires c κs =
+    let q = standing _ ((c .before .before .before .before .before .before) .pre .laid) in
+    omega (arith, (c .before .before .before .before .before .before) .pre .place, (c .before .before .before .before .before .before) .pre .room, (c .before .before .documents-held) .ensures, (c .before .entry-place) .ensures)
 
--- src/change.rt:58:13
 blank-entry-requires : tie.Need-blank-entry-requires
-blank-entry-requires c κs = (c .before .before .before .before .before .before .before .before .before) .pre .id
+blank-entry-requires c κs =
+    (c .before .before .before .before .before .before .before .before .before) .pre .id
 
--- src/change.rt:59:19
 slice-aggregate-copy-in : tie.Need-slice-aggregate-copy-in
 slice-aggregate-copy-in c = search needs
 
--- src/change.rt:59:5
 copy-in-requires : tie.Need-copy-in-requires
-copy-in-requires c κs = let q = standing _ ((c .before .before .before .before .before .before .before .before .before .before .before .before) .pre .laid) in let n = length-blank _ _ ((c .before .before .before .before .before .before .before .before .before .before .before .before) .pre .id) ((c .before .before .blank-entry) .ensures) in omega (arith, (c .before .before .before .before .before .before .before .before .before .before .before .before) .pre .place, (c .before .before .before .before .before .before .before .before .before .before .before .before) .pre .room, (c .before .before .before .before .before .before .before .entry-place) .ensures, (c .before .before .before .before .b) .given, n)
+copy-in-requires c κs =
+    let q = standing _ ((c .before .before .before .before .before .before .before .before .before .before .before .before) .pre .laid) in
+    let n = length-blank _ _ ((c .before .before .before .before .before .before .before .before .before .before .before .before) .pre .id) ((c .before .before .blank-entry) .ensures) in
+    omega (arith, (c .before .before .before .before .before .before .before .before .before .before .before .before) .pre .place, (c .before .before .before .before .before .before .before .before .before .before .before .before) .pre .room, (c .before .before .before .before .before .before .before .entry-place) .ensures, (c .before .before .before .before .b) .given, n)
 
--- src/change.rt:60:16
 add-put2 : tie.Need-add-put2
-add-put2 c = let q = standing _ ((c .before .before .before .before .before .before .before .before .before .before .before .before .before .before .before .before) .pre .laid) in omega (arith, (c .before .before .before .before .before .before .before .before .before .before .before .before .documents-held) .ensures)
+add-put2 c =
+    let q = standing _ ((c .before .before .before .before .before .before .before .before .before .before .before .before .before .before .before .before) .pre .laid) in
+    omega (arith, (c .before .before .before .before .before .before .before .before .before .before .before .before .documents-held) .ensures)
 
--- src/change.rt:60:5
 put2-requires : tie.Need-put2-requires
-put2-requires c κs = let q = standing _ ((c .before .before .before .before .before .before .before .before .before .before .before .before .before .before .before .before) .pre .laid) in omega (arith, (c .before .before .before .before .before .before .before .before .b) .given, (c .before .before .b2) .given)
+put2-requires c κs =
+    let q = standing _ ((c .before .before .before .before .before .before .before .before .before .before .before .before .before .before .before .before) .pre .laid) in
+    omega (arith, (c .before .before .before .before .before .before .before .before .b) .given, (c .before .before .b2) .given)
 
--- src/change.rt:51:1
 same-length : tie.Need-same-length
 same-length c = search needs
 
--- src/change.rt:51:1
 returns : tie.Need-returns
-returns c = document-holds _ _ _ _ _ _ _ _ _ ((c .before .before .before .before .before .before .before .before .before .before .before .before .before .before .before .before .before .before .before) .pre) ((c .before .before .before .before .before .before .before .before .before .before .before .before .before .before .before .documents-held) .ensures) ((c .before .before .before .before .before .before .before .before .before .before .before .before .before .before .entry-place) .ensures) refl ((c .before .before .before .before .before .before .before .before .before .before .before .before .move-up) .ensures) ((c .before .before .before .before .before .before .copy-in) .ensures ∙ ap (splice _ _) ((c .before .before .before .before .before .before .before .before .before .blank-entry) .ensures)) ((c .before .before .put2) .ensures)
+returns c =
+    document-holds _ _ _ _ _ _ _ _ _ ((c .before .before .before .before .before .before .before .before .before .before .before .before .before .before .before .before .before .before .before) .pre) ((c .before .before .before .before .before .before .before .before .before .before .before .before .before .before .before .documents-held) .ensures) ((c .before .before .before .before .before .before .before .before .before .before .before .before .before .before .entry-place) .ensures) refl ((c .before .before .before .before .before .before .before .before .before .before .before .before .move-up) .ensures) ((c .before .before .before .before .before .before .copy-in) .ensures ∙ ap (splice _ _) ((c .before .before .before .before .before .before .before .before .before .blank-entry) .ensures)) ((c .before .before .put2) .ensures)
 
 pub add-document-spec : {M : Type 1} → statement M
 add-document-spec =

@@ -1,19 +1,13 @@
 -- `read::documents_held` meets its contract. Assumes nothing.
-use mathlib.Core.Path.{_≡_, refl, sym, ap, _∙_}
+use mathlib.Core.Path.{_∙_}
 use native.Mathlib.Omega.{arith}
-use Rattle.store.proofs.EntryLaws.{Standing, standing, EntryHeld, entry-held}
-use borrow.Author.Needs.{needs}
+use Rattle.store.proofs.EntryLaws.{standing}
 use Rattle.store.proofs.read.documents_held.Statement.{statement}
 use Rattle.store.proofs.read.documents_held.Tie as tie
-use Rattle.store.proofs.read.documents_held.Reads as reads
-use Rattle.store.proofs.read.documents_held.Lts as lts
-use Rattle.octets.proofs.number.get2.Reads as get2-reads
 
--- src/read.rt:19:5
 get2-requires : tie.Need-get2-requires
 get2-requires c κs = let q = standing _ ((c .before) .pre) in omega arith
 
--- src/read.rt:15:1
 returns : tie.Need-returns
 returns c = (c .get2) .ensures .is ∙ standing _ ((c .before .before) .pre) .documents
 

@@ -1,17 +1,13 @@
 use Rattle.store.proofs.EntryLaws.{first-none, first-more}
 -- `read::first_row` meets its contract. The sum is that of the documents passed. Assumes nothing.
 use Rattle.store.specs.Documents.{documentsOf, firstRow}
-use native.Mathlib.Numerals.{add-one}
 use Prim.Native.Nat.{_≤_, _-_}
-use mathlib.Core.Path.{_≡_, refl, sym, ap, _∙_}
+use mathlib.Core.Path.{_≡_, refl, ap, _∙_}
 use native.Mathlib.Omega.{arith}
-use Rattle.store.proofs.EntryLaws.{Standing, standing, EntryHeld, entry-held, IdAt, id-at, first-next}
+use Rattle.store.proofs.EntryLaws.{standing, entry-held}
 use borrow.Author.Needs.{needs}
 use Rattle.store.proofs.read.first_row.Statement.{statement}
 use Rattle.store.proofs.read.first_row.Tie as tie
-use Rattle.store.proofs.read.first_row.Reads as reads
-use Rattle.store.proofs.read.first_row.Lts as lts
-use Rattle.store.proofs.read.row_count.Reads as row-count-reads
 
 abbrev Inv-loop : tie.InvT-loop
 Inv-loop b d i₀ sum₀ i sum = (i ≤ d) × (sum ≡ firstRow (documentsOf b) i)
@@ -19,33 +15,33 @@ Inv-loop b d i₀ sum₀ i sum = (i ≤ d) × (sum ≡ firstRow (documentsOf b) 
 abbrev μ-loop : tie.MeasureT-loop
 μ-loop b d i₀ sum₀ i sum = d - i
 
--- src/read.rt:67:5
 loop-holds : tie.Need-loop-holds Inv-loop μ-loop
 loop-holds c = (omega arith, first-none _ _ _ refl refl)
 
--- src/read.rt:68:16
 row-count-requires : tie.Need-row-count-requires Inv-loop μ-loop
-row-count-requires c κs = record { laid = (c .before .before .before) .pre .laid; within = omega (arith, (c .before .before .before) .pre .within) }
+row-count-requires c κs =
+    record { laid = (c .before .before .before) .pre .laid; within = omega (arith, (c .before .before .before) .pre .within) }
 
--- src/read.rt:68:9
 add-sum : tie.Need-add-sum Inv-loop μ-loop
-add-sum c = let q = standing _ ((c .before .before .before .before) .pre .laid) in let f = entry-held _ ((c .before .before .loop) .i) (record { laid = (c .before .before .before .before) .pre .laid; within = omega (arith, (c .before .before .before .before) .pre .within) }) in omega arith
+add-sum c =
+    let q = standing _ ((c .before .before .before .before) .pre .laid) in
+    let f = entry-held _ ((c .before .before .loop) .i) (record { laid = (c .before .before .before .before) .pre .laid; within = omega (arith, (c .before .before .before .before) .pre .within) }) in
+    omega arith
 
--- src/read.rt:69:9
 add-i : tie.Need-add-i Inv-loop μ-loop
 add-i c = search needs
 
--- src/read.rt:67:5
 loop-less : tie.Need-loop-less Inv-loop μ-loop
 loop-less c = search needs
 
--- src/read.rt:67:5
 loop-again : tie.Need-loop-again Inv-loop μ-loop
-loop-again c = (omega arith, first-more _ ((c .before .before .loop) .i) _ _ (omega (arith, (c .before .before .before .before) .pre .within)) ((c .before .before .loop) .inv .1) ((c .row-count) .ensures))
+loop-again c =
+    (omega arith, first-more _ ((c .before .before .loop) .i) _ _ (omega (arith, (c .before .before .before .before) .pre .within)) ((c .before .before .loop) .inv .1) ((c .row-count) .ensures))
 
--- src/read.rt:61:1
 returns : tie.Need-returns Inv-loop μ-loop
-returns c = let e : (c .before .loop) .i ≡ (c .before .before .before) .args .d = omega arith in (c .before .loop) .inv .1 ∙ ap (firstRow _) e
+returns c =
+    let e : (c .before .loop) .i ≡ (c .before .before .before) .args .d = omega arith in
+    (c .before .loop) .inv .1 ∙ ap (firstRow _) e
 
 pub first-row-spec : {M : Type 1} → statement M
 first-row-spec =

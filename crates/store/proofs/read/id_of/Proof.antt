@@ -1,49 +1,47 @@
 -- `read::id_of` meets its contract. Assumes nothing.
-use mathlib.Core.Path.{_≡_, refl, sym, ap, _∙_}
+use mathlib.Core.Path.{refl}
 use native.Mathlib.Omega.{arith}
-use Rattle.store.proofs.EntryLaws.{Standing, standing, EntryHeld, entry-held, IdAt, id-at, first-next}
+use Rattle.store.proofs.EntryLaws.{standing, id-at}
 use borrow.Author.Needs.{needs}
 use Rattle.store.proofs.read.id_of.Statement.{statement}
 use Rattle.store.proofs.read.id_of.Tie as tie
-use Rattle.store.proofs.read.id_of.Reads as reads
-use Rattle.store.proofs.read.id_of.Lts as lts
-use Rattle.store.proofs.read.entry_place.Reads as entry-place-reads
 
--- src/read.rt:79:9
 entry-place-requires : tie.Need-entry-place-requires
-entry-place-requires c κs = let q = standing _ ((c .before) .pre .laid) in omega (arith, (c .before) .pre .within)
+entry-place-requires c κs =
+    let q = standing _ ((c .before) .pre .laid) in
+    omega (arith, (c .before) .pre .within)
 
--- src/read.rt:80:13
 add-a : tie.Need-add-a
 add-a c = search needs
 
--- src/read.rt:81:18
 shared-slice-read-e : tie.Need-shared-slice-read-e
-shared-slice-read-e c = let q = id-at _ _ _ ((c .before .before .before) .pre) ((c .before .entry-place) .ensures) in omega arith
+shared-slice-read-e c =
+    let q = id-at _ _ _ ((c .before .before .before) .pre) ((c .before .entry-place) .ensures) in
+    omega arith
 
--- src/read.rt:81:18
 cast-e : tie.Need-cast-e
 cast-e c = omega (arith, (c .shared-slice-known2) .given ((c .before .entry-place) .result))
 
--- src/read.rt:81:13
 add-e : tie.Need-add-e
-add-e c = let q = id-at _ _ _ ((c .before .before .before) .pre) ((c .before .entry-place) .ensures) in omega (arith, (c .shared-slice-known2) .given ((c .before .entry-place) .result))
+add-e c =
+    let q = id-at _ _ _ ((c .before .before .before) .pre) ((c .before .entry-place) .ensures) in
+    omega (arith, (c .shared-slice-known2) .given ((c .before .entry-place) .result))
 
--- src/read.rt:82:5
 sub-result : tie.Need-sub-result
 sub-result c = search needs
 
--- src/read.rt:82:5
 part-result-start : tie.Need-part-result-start
 part-result-start c = search needs
 
--- src/read.rt:82:5
 part-result-end : tie.Need-part-result-end
-part-result-end c = let q = id-at _ _ _ ((c .before .before .before) .pre) ((c .before .entry-place) .ensures) in omega arith
+part-result-end c =
+    let q = id-at _ _ _ ((c .before .before .before) .pre) ((c .before .entry-place) .ensures) in
+    omega arith
 
--- src/read.rt:75:1
 returns : tie.Need-returns
-returns c = let q = id-at _ _ _ ((c .before .before .before .before) .pre) ((c .before .before .entry-place) .ensures) in q .id _ _ refl refl
+returns c =
+    let q = id-at _ _ _ ((c .before .before .before .before) .pre) ((c .before .before .entry-place) .ensures) in
+    q .id _ _ refl refl
 
 pub id-of-spec : {M : Type 1} → statement M
 id-of-spec =

@@ -1,30 +1,27 @@
 -- `read::row_count` meets its contract. Assumes nothing.
-use mathlib.Core.Path.{_≡_, refl, sym, ap, _∙_}
+use mathlib.Core.Path.{_∙_}
 use native.Mathlib.Omega.{arith}
-use Rattle.store.proofs.EntryLaws.{Standing, standing, EntryHeld, entry-held}
+use Rattle.store.proofs.EntryLaws.{standing, entry-held}
 use borrow.Author.Needs.{needs}
 use Rattle.store.proofs.read.row_count.Statement.{statement}
 use Rattle.store.proofs.read.row_count.Tie as tie
-use Rattle.store.proofs.read.row_count.Reads as reads
-use Rattle.store.proofs.read.row_count.Lts as lts
-use Rattle.octets.proofs.number.get2.Reads as get2-reads
-use Rattle.store.proofs.read.entry_place.Reads as entry-place-reads
 
--- src/read.rt:57:13
 entry-place-requires : tie.Need-entry-place-requires
-entry-place-requires c κs = let q = standing _ ((c .before) .pre .laid) in omega (arith, (c .before) .pre .within)
+entry-place-requires c κs =
+    let q = standing _ ((c .before) .pre .laid) in
+    omega (arith, (c .before) .pre .within)
 
--- src/read.rt:57:13
 add-get2 : tie.Need-add-get2
 add-get2 c = search needs
 
--- src/read.rt:57:5
 get2-requires : tie.Need-get2-requires
-get2-requires c κs = let q = standing _ ((c .before .before) .pre .laid) in omega (arith, (c .before .before) .pre .within)
+get2-requires c κs =
+    let q = standing _ ((c .before .before) .pre .laid) in
+    omega (arith, (c .before .before) .pre .within)
 
--- src/read.rt:53:1
 returns : tie.Need-returns
-returns c = (c .get2) .ensures .is ∙ entry-held _ _ ((c .before .before .before) .pre) .rows _ ((c .before .entry-place) .ensures)
+returns c =
+    (c .get2) .ensures .is ∙ entry-held _ _ ((c .before .before .before) .pre) .rows _ ((c .before .entry-place) .ensures)
 
 pub row-count-spec : {M : Type 1} → statement M
 row-count-spec = tie.close (tie.spec entry-place-requires add-get2 get2-requires returns)
