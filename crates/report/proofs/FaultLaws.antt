@@ -1,9 +1,9 @@
 -- The place of a fault is small, and what lies past the longest image changes nothing. Assumes nothing.
 use mathlib.Core.Path.{_≡_, refl, sym, ap, _∙_, subst}
 use mathlib.Core.Bool.{Bool, true, false, not}
-use mathlib.Core.List.{List, [], _∷_, _++_, map}
+use mathlib.Core.List.{List, [], _∷_}
 use mathlib.Core.Option.{Option, none, some}
-use Prim.Native.Nat.{ℕ, zero, suc, _+_, _*_, _≤_, _<_}
+use Prim.Native.Nat.{ℕ, zero, suc, _+_, _*_, _≤_}
 use native.Mathlib.Omega.{arith}
 use lib.Dec.{eqb, ltb, leb}
 use lib.ListN.{length, take, drop, length-append, length-take, length-drop, length-map}
@@ -14,14 +14,14 @@ use Rattle.rules.specs.declared.Fault.the-variants.{TooShort, BadEdition, BadHe
 use Rattle.rules.specs.declared.Revision.{Revision}
 use Rattle.rules.specs.Bytes.{part, pieces}
 use Rattle.rules.specs.Choice.{pick, orElse, firstThat}
-use Rattle.rules.specs.Image.{Head, Entry, Row, headSize, entrySize, rowSize, headOf, entryOf, rowOf, entriesOf, rowsOf, deal, sumRows, firstTrue, badHead, badEntry, badEntries, badContents, badSeqs, largest, badSequence, badRows, inEach, badLink, badLinks, at, faults, edition, totalLength}
+use Rattle.rules.specs.Image.{Head, Entry, Row, headSize, entrySize, rowSize, headOf, entryOf, rowOf, entriesOf, rowsOf, deal, sumRows, firstTrue, badHead, badEntries, badContents, badSeqs, largest, badSequence, badRows, inEach, badLink, badLinks, at, faults, edition, totalLength}
 use Rattle.rules.specs.Replica.{Id}
 use Rattle.rules.specs.Report.{refusedText, report, inputMost, printed}
 use Rattle.rules.specs.Room.{documentsMost, revisionsMost}
 use Rattle.rules.proofs.ByteLaws.{length-pieces}
 use Rattle.rules.proofs.MapLaws.{none≢some, some-inj}
 use Rattle.images.proofs.Lists.{Each}
-use Rattle.images.proofs.Tests.{true≢false, none5}
+use Rattle.images.proofs.Tests.{none5}
 
 -- what is so of a head without a fault
 record Headed (s : List ℕ) : Type 0 where
@@ -158,13 +158,28 @@ place-most s f e = go (badHead s) refl
         let d = k .documents in
         let r = k .revisions in
         first-each (λ (g : Fault × ℕ). g .1 ≤ revisionsMost) (faults s)
-        (unfold faults in
-        (z, (z, (z,
-        (at-most BadContents (badContents s) (contents-most s d r),
-        (at-most BadSequence (badSequence s) (sequence-most s d r),
-        (at-most BadRow (firstTrue 0 (inEach (badRows none) (deal (entriesOf s) (rowsOf s)))) (rows-bad-most s d r (badRows none) (length-bad-rows none)),
-        (at-most BadParent (firstTrue 0 (inEach badLinks (deal (entriesOf s) (rowsOf s)))) (rows-bad-most s d r badLinks length-bad-links),
-        tt))))))))
+        (unfold faults in (
+          z,
+          (
+            z,
+            (
+              z,
+              (
+                at-most BadContents (badContents s) (contents-most s d r),
+                (
+                  at-most BadSequence (badSequence s) (sequence-most s d r),
+                  (
+                    at-most BadRow (firstTrue 0 (inEach (badRows none) (deal (entriesOf s) (rowsOf s)))) (rows-bad-most s d r (badRows none) (length-bad-rows none)),
+                    (
+                      at-most BadParent (firstTrue 0 (inEach badLinks (deal (entriesOf s) (rowsOf s)))) (rows-bad-most s d r badLinks length-bad-links),
+                      tt,
+                    ),
+                  ),
+                ),
+              ),
+            ),
+          ),
+        ))
         f e
 
     go : (b : Bool) → badHead s ≡ b → f .1 ≤ revisionsMost

@@ -1,17 +1,16 @@
 -- How long a report is at most. Assumes nothing.
-use mathlib.Core.Path.{_≡_, refl, sym, ap, _∙_}
+use mathlib.Core.Path.{_≡_, refl}
 use mathlib.Core.Bool.{Bool, true, false}
-use mathlib.Core.List.{List, [], _∷_, _++_, map}
-use Prim.Native.Nat.{ℕ, zero, suc, _+_, _*_, _/_, _%_, _≤_}
+use mathlib.Core.List.{List, [], _∷_}
+use Prim.Native.Nat.{ℕ, zero, suc, _+_, _/_, _%_, _≤_}
 use native.Mathlib.Omega.{arith}
 use lib.Dec.{eqb}
 use lib.ListN.{length, length-append}
 use Rattle.rules.specs.declared.Fault.{Fault}
 use Rattle.rules.specs.declared.Revision.{Revision}
-use Rattle.rules.specs.Bytes.{join}
 use Rattle.rules.specs.Choice.{pick}
 use Rattle.rules.specs.Refusal.{faultNumber}
-use Rattle.rules.specs.Report.{digits, trim, decimal, hex, text, Line, revText, lineText, headText, refusedText}
+use Rattle.rules.specs.Report.{digits, trim, decimal, text, Line, revText, lineText, headText, refusedText}
 use Rattle.rules.specs.Replica.{Replica, revisionsHeld}
 use Rattle.rules.specs.Room.{idMost, hashSize}
 use Rattle.text.proofs.TextLaws.{length-hex}

@@ -2,7 +2,7 @@
 use mathlib.Core.Path.{_≡_, refl, sym, ap, _∙_, subst}
 use mathlib.Core.List.{List, [], _∷_, _++_, map, append-assoc, append-nil}
 use mathlib.Core.Option.{Option, none, some}
-use Prim.Native.Nat.{ℕ, suc, _+_, _-_, _*_, _≤_, _<_}
+use Prim.Native.Nat.{ℕ, _+_, _-_, _*_, _≤_, _<_}
 use native.Mathlib.Numerals.{add-one}
 use native.Mathlib.Omega.{arith}
 use lib.ListN.{length, take, getD, length-append}
@@ -11,12 +11,11 @@ use Rattle.rules.specs.declared.Content.{Content}
 use Rattle.rules.specs.declared.Revision.{Revision}
 use Rattle.rules.specs.Bytes.{join}
 use Rattle.rules.specs.Choice.{maybe}
-use Rattle.rules.specs.Map.{Map, find}
-use Rattle.rules.specs.Order.{orderRev}
+use Rattle.rules.specs.Map.{Map}
 use Rattle.rules.specs.Read.{leafIn, leaves, winner, conflicts}
 use Rattle.rules.specs.Replica.{Id, Tree, Document, Replica, documentOf, IsTree, IsDocument}
 use Rattle.rules.specs.Report.{decimal, hex, text, lineOf, revText, lineText, headText, replicaText}
-use Rattle.rules.specs.Room.{idMost, revisionsMost}
+use Rattle.rules.specs.Room.{idMost}
 use Rattle.rules.proofs.MapLaws.{none≢some}
 use Rattle.rules.proofs.OrderLaws.{bytesOrder}
 use Rattle.rules.proofs.ByteLaws.{join-append}
@@ -24,7 +23,6 @@ use Rattle.images.proofs.Lists.{map-append}
 use Rattle.union.proofs.Winners.{leafOf, leaf-content}
 use Rattle.octets.proofs.SpliceLaws.{splice-none}
 use Rattle.text.specs.Text.{Put}
-use Rattle.tree.specs.declared.leaf.Winner.{Winner}
 use Rattle.tree.specs.declared.leaf.Winner.the-variants as won
 use Rattle.tree.specs.declared.table.Found.{Found}
 use Rattle.tree.specs.declared.table.Found.the-variants.{At, Gap}
@@ -34,7 +32,7 @@ use Rattle.tree.specs.Table.{treeAt, placeOf}
 use Rattle.tree.proofs.PlaceLaws.{place-at, place-gap}
 use Rattle.tree.proofs.SearchLaws.{revIn, rev-in}
 use Rattle.tree.proofs.TableLaws.{length-tree}
-use Rattle.store.specs.Storage.{replicaOf, All, IsStored}
+use Rattle.store.specs.Storage.{replicaOf, IsStored}
 use Rattle.store.specs.Documents.{documentsOf, documentAt, noDocument, IsBody}
 use Rattle.store.specs.declared.read.Body.{Body}
 use Rattle.store.proofs.BodyLaws.{body-shows}

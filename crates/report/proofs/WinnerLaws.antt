@@ -3,7 +3,7 @@ use mathlib.Core.Path.{_≡_, refl, sym, ap, _∙_, subst}
 use mathlib.Core.List.{List, [], _∷_, _++_}
 use mathlib.Core.Logic.{_⊎_, inl, inr}
 use mathlib.Core.Option.{Option, none, some}
-use Prim.Native.Nat.{ℕ, zero, suc, _+_, _-_, _≤_, _<_}
+use Prim.Native.Nat.{suc, _+_, _-_, _≤_, _<_}
 use native.Mathlib.Omega.{arith}
 use lib.ListN.{length}
 use Rattle.rules.specs.declared.Content.{Content}
@@ -11,13 +11,12 @@ use Rattle.rules.specs.declared.Order.{Order}
 use Rattle.rules.specs.declared.Order.the-variants.{Less, Equal, Greater}
 use Rattle.rules.specs.declared.Revision.{Revision}
 use Rattle.rules.specs.Choice.{maybe, pick}
-use Rattle.rules.specs.Map.{find, Below, Ascending}
+use Rattle.rules.specs.Map.{Ascending}
 use Rattle.rules.specs.Order.{orderRev, isEqual, sameRev}
 use Rattle.rules.specs.Read.{LeafOf, leafIn, leaves, higher, highest, winner, notAt, conflicts}
-use Rattle.rules.specs.Replica.{Node, Tree, HasContent, HasParent, HasChild, Leaf, IsTree}
+use Rattle.rules.specs.Replica.{Tree, HasContent, Leaf, IsTree}
 use Rattle.rules.specs.Union.{In}
 use Rattle.rules.proofs.OrderLaws.{revOrder, no-less-self, less-orderN, less≢equal, orderRev-same}
-use Rattle.rules.proofs.MapLaws.{none≢some}
 use Rattle.union.proofs.Count.{below-all, in-find, find-in}
 use Rattle.union.proofs.Lists.{in-cases}
 use Rattle.union.proofs.Trees.{Entry}

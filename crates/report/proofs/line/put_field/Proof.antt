@@ -5,26 +5,18 @@ use Rattle.report.proofs.PutLaws.{put-then}
 use borrow.Author.Needs.{needs}
 use Rattle.report.proofs.line.put_field.Statement.{statement}
 use Rattle.report.proofs.line.put_field.Tie as tie
-use Rattle.report.proofs.line.put_field.Reads as reads
-use Rattle.report.proofs.line.put_field.Lts as lts
-use Rattle.text.proofs.put_decimal.Reads as put-decimal-reads
-use Rattle.text.proofs.put_word.Reads as put-word-reads
 
--- src/line.rt:25:9
 put-word-requires : tie.Need-put-word-requires
 put-word-requires c κs = search needs
 
--- src/line.rt:26:5
 put-decimal-requires : tie.Need-put-decimal-requires
 put-decimal-requires c κs = omega (arith, decimal-most ((c .before .before .before .before .before .before .before) .args .v))
 
--- src/line.rt:21:1
 same-length : tie.Need-same-length
 same-length c = search needs
 
--- src/line.rt:21:1
 returns : tie.Need-returns
-returns c = 
+returns c =
     let n = decimal-most ((c .before .before .before .before .before .before .before .before .before .before) .args .v) in
     record { put = put-then ((c .before .before .before .before .before .before .put-word) .ensures) ((c .before .before .put-decimal) .ensures) (omega arith); most = omega arith }
 

@@ -13,42 +13,27 @@ use Rattle.report.proofs.StandingLaws.{stored-document, id-most, body-t
 use borrow.Author.Needs.{needs}
 use Rattle.report.proofs.line.put_line.Statement.{statement}
 use Rattle.report.proofs.line.put_line.Tie as tie
-use Rattle.report.proofs.line.put_line.Reads as reads
-use Rattle.report.proofs.line.put_line.Lts as lts
-use Rattle.report.proofs.line.put_field.Reads as put-field-reads
-use Rattle.report.proofs.line.put_standing.Reads as put-standing-reads
-use Rattle.store.proofs.read.body_of.Reads as body-of-reads
-use Rattle.store.proofs.read.id_of.Reads as id-of-reads
-use Rattle.store.proofs.read.own_sequence.Reads as own-sequence-reads
-use Rattle.text.proofs.put_hex.Reads as put-hex-reads
 
--- src/line.rt:131:28
 id-of-requires : tie.Need-id-of-requires
 id-of-requires c κs = record { laid = stored-laid _ ((c .before .before .before) .pre .stored); within = (c .before .before .before) .pre .within }
 
--- src/line.rt:131:9
 put-hex-requires : tie.Need-put-hex-requires
 put-hex-requires c κs = let m = id-most ((c .before .before .before .before) .args .b .now) ((c .before .before .before .before) .args .d) ((c .id-of) .result .now) ((c .before .before .before .before) .pre .stored) ((c .before .before .before .before) .pre .within) ((c .id-of) .ensures) in omega (arith, (c .before .before .before .before) .pre .room)
 
--- src/line.rt:132:9
 own-sequence-requires : tie.Need-own-sequence-requires
 own-sequence-requires c κs = record { laid = stored-laid _ ((c .before .before .before .before .before .before .before) .pre .stored); within = (c .before .before .before .before .before .before .before) .pre .within }
 
--- src/line.rt:133:29
 slice-aggregate-put-field : tie.Need-slice-aggregate-put-field
 slice-aggregate-put-field c = search needs
 
--- src/line.rt:133:9
 put-field-requires : tie.Need-put-field-requires
 put-field-requires c κs = let m = id-most ((c .before .before .before .before .before .before .before .before .before .before) .args .b .now) ((c .before .before .before .before .before .before .before .before .before .before) .args .d) ((c .before .before .before .before .before .before .id-of) .result .now) ((c .before .before .before .before .before .before .before .before .before .before) .pre .stored) ((c .before .before .before .before .before .before .before .before .before .before) .pre .within) ((c .before .before .before .before .before .before .id-of) .ensures) in let l = length-hex ((c .before .before .before .before .before .before .id-of) .result .now) in omega (arith, (c .before .before .before .before .before .before .before .before .before .before) .pre .room, (c .before .before .before .before .before .put-hex) .ensures .ends)
 
--- src/line.rt:134:9
 body-of-requires : tie.Need-body-of-requires
 body-of-requires c κs = record { laid = stored-laid _ ((c .before .before .before .before .before .before .before .before .before .before .before .before .before) .pre .stored); within = (c .before .before .before .before .before .before .before .before .before .before .before .before .before) .pre .within }
 
--- src/line.rt:135:5
 put-standing-requires : tie.Need-put-standing-requires
-put-standing-requires c κs = 
+put-standing-requires c κs =
     let m = id-most ((c .before .before .before .before .before .before .before .before .before .before .before .before .before .before .before) .args .b .now) ((c .before .before .before .before .before .before .before .before .before .before .before .before .before .before .before) .args .d) ((c .before .before .before .before .before .before .before .before .before .before .before .id-of) .result .now) ((c .before .before .before .before .before .before .before .before .before .before .before .before .before .before .before) .pre .stored) ((c .before .before .before .before .before .before .before .before .before .before .before .before .before .before .before) .pre .within) ((c .before .before .before .before .before .before .before .before .before .before .before .id-of) .ensures) in
     let l = length-hex ((c .before .before .before .before .before .before .before .before .before .before .before .id-of) .result .now) in
     let q = body-standing _ _ _ ((c .before .body-of) .ensures) in
@@ -58,14 +43,12 @@ put-standing-requires c κs =
       room = omega (arith, (c .before .before .before .before .before .before .before .before .before .before .before .before .before .before .before) .pre .room, (c .before .before .before .before .before .before .before .before .before .before .put-hex) .ensures .ends, (c .before .before .before .before .put-field) .ensures .most);
     }
 
--- src/line.rt:127:1
 same-length : tie.Need-same-length
 same-length c = search needs
 
--- src/line.rt:127:1
 returns : tie.Need-returns
 unfolding text
-returns c = 
+returns c =
     let m = id-most ((c .before .before .before .before .before .before .before .before .before .before .before .before .before .before .before .before .before .before) .args .b .now) ((c .before .before .before .before .before .before .before .before .before .before .before .before .before .before .before .before .before .before) .args .d) ((c .before .before .before .before .before .before .before .before .before .before .before .before .before .before .id-of) .result .now) ((c .before .before .before .before .before .before .before .before .before .before .before .before .before .before .before .before .before .before) .pre .stored) ((c .before .before .before .before .before .before .before .before .before .before .before .before .before .before .before .before .before .before) .pre .within) ((c .before .before .before .before .before .before .before .before .before .before .before .before .before .before .id-of) .ensures) in
     let l = length-hex ((c .before .before .before .before .before .before .before .before .before .before .before .before .before .before .id-of) .result .now) in
     record {

@@ -13,10 +13,6 @@ use Rattle.report.proofs.StandingLaws.{lines-none, lines-more}
 use borrow.Author.Needs.{needs}
 use Rattle.report.proofs.line.put_lines.Statement.{statement}
 use Rattle.report.proofs.line.put_lines.Tie as tie
-use Rattle.report.proofs.line.put_lines.Reads as reads
-use Rattle.report.proofs.line.put_lines.Lts as lts
-use Rattle.report.proofs.line.put_line.Reads as put-line-reads
-use Rattle.store.proofs.read.documents_held.Reads as documents-held-reads
 
 abbrev Inv-loop : tie.InvT-loop
 Inv-loop b s₀ at n next₀ d₀ s next d =
@@ -25,32 +21,26 @@ Inv-loop b s₀ at n next₀ d₀ s next d =
 abbrev μ-loop : tie.MeasureT-loop
 μ-loop b s₀ at n next₀ d₀ s next d = n - d
 
--- src/line.rt:143:9
 documents-held-requires : tie.Need-documents-held-requires Inv-loop μ-loop
 documents-held-requires c κs = stored-laid _ ((c .before .before) .pre .stored)
 
--- src/line.rt:146:5
 loop-holds : tie.Need-loop-holds Inv-loop μ-loop
 loop-holds c = (omega arith, omega arith, refl, lines-none (documentsOf ((c .before .before .before) .args .b .now)) ((c .before .before .before) .args .s .now) ((c .before .before .before) .args .at))
 
--- src/line.rt:147:9
 put-line-requires : tie.Need-put-line-requires Inv-loop μ-loop
-put-line-requires c κs = 
+put-line-requires c κs =
     record {
       stored = (c .before .before .before .before .before .before) .pre .stored;
       within = omega (arith, (c .before .before .before .documents-held) .ensures, (c .before .loop-test) .taken);
       room = omega (arith, (c .before .before .before .documents-held) .ensures, (c .before .loop-test) .taken, (c .before .before .loop) .inv .1, (c .before .before .loop) .inv .2, (c .before .before .before .before .before .before) .pre .room);
     }
 
--- src/line.rt:148:9
 add-d : tie.Need-add-d Inv-loop μ-loop
 add-d c = search needs
 
--- src/line.rt:146:5
 loop-less : tie.Need-loop-less Inv-loop μ-loop
 loop-less c = search needs
 
--- src/line.rt:146:5
 loop-again : tie.Need-loop-again Inv-loop μ-loop
 loop-again c = (
   omega (arith, (c .before .before .before .before .loop-test) .taken),
@@ -60,13 +50,11 @@ loop-again c = (
       (put-then ((c .before .before .before .before .before .loop) .inv .3) ((c .before .before .put-line) .ensures .put) (omega (arith, (c .before .before .before .before .before .before .documents-held) .ensures, (c .before .before .before .before .loop-test) .taken, (c .before .before .before .before .before .loop) .inv .1, (c .before .before .put-line) .ensures .most, (c .before .before .before .before .before .before .before .before .before) .pre .room))),
 )
 
--- src/line.rt:139:1
 same-length : tie.Need-same-length Inv-loop μ-loop
 same-length c = search needs
 
--- src/line.rt:139:1
 returns : tie.Need-returns Inv-loop μ-loop
-returns c = 
+returns c =
     let n : (c .before .loop) .d ≡ length (documentsOf ((c .before .before .before .before .before) .args .b .now)) = omega (arith, (c .before .before .documents-held) .ensures, (c .before .loop) .inv .0, (c .loop-test) .left) in
     record {
       put = put-as (ap linesText (rw n (take-length (documentsOf ((c .before .before .before .before .before) .args .b .now))))) ((c .before .loop) .inv .3);

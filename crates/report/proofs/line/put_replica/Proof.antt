@@ -7,25 +7,17 @@ use Rattle.report.proofs.StandingLaws.{replica-joined}
 use borrow.Author.Needs.{needs}
 use Rattle.report.proofs.line.put_replica.Statement.{statement}
 use Rattle.report.proofs.line.put_replica.Tie as tie
-use Rattle.report.proofs.line.put_replica.Reads as reads
-use Rattle.report.proofs.line.put_replica.Lts as lts
-use Rattle.report.proofs.line.put_head.Reads as put-head-reads
-use Rattle.report.proofs.line.put_lines.Reads as put-lines-reads
 
--- src/line.rt:158:9
 put-head-requires : tie.Need-put-head-requires
 put-head-requires c κs = record { laid = stored-laid _ ((c .before .before .before) .pre .stored); room = omega (arith, (c .before .before .before) .pre .room) }
 
--- src/line.rt:159:5
 put-lines-requires : tie.Need-put-lines-requires
 put-lines-requires c κs =
     record { stored = (c .before .before .before .before .before .before .before) .pre .stored; room = omega (arith, (c .before .before .before .before .before .before .before) .pre .room, (c .before .before .before .before .before .before .before) .pre .stored .replica .documents-most, (c .before .before .before .put-head) .ensures .most) }
 
--- src/line.rt:154:1
 same-length : tie.Need-same-length
 same-length c = search needs
 
--- src/line.rt:154:1
 returns : tie.Need-returns
 returns c =
     let m = (c .before .before .before .before .before .before .before .before .before .before) .pre .stored .replica .documents-most in

@@ -10,43 +10,31 @@ use Rattle.report.proofs.PutLaws.{put-then, put-as}
 use borrow.Author.Needs.{needs}
 use Rattle.report.proofs.line.put_rev.Statement.{statement}
 use Rattle.report.proofs.line.put_rev.Tie as tie
-use Rattle.report.proofs.line.put_rev.Reads as reads
-use Rattle.report.proofs.line.put_rev.Lts as lts
-use Rattle.text.proofs.put_decimal.Reads as put-decimal-reads
-use Rattle.text.proofs.put_hex.Reads as put-hex-reads
-use Rattle.text.proofs.put_word.Reads as put-word-reads
 
--- src/line.rt:50:9
 put-decimal-requires : tie.Need-put-decimal-requires
 put-decimal-requires c κs = omega (arith, decimal-most ((c .before .before .before .before) .args .rev .number .0))
 
--- src/line.rt:51:31
 slice-aggregate-put-word : tie.Need-slice-aggregate-put-word
 slice-aggregate-put-word c = search needs
 
--- src/line.rt:51:9
 put-word-requires : tie.Need-put-word-requires
 put-word-requires c κs = omega (arith, decimal-most ((c .before .before .before .before .before .before .before .before .before) .args .rev .number .0))
 
--- src/line.rt:52:19
 slice-aggregate-put-hex : tie.Need-slice-aggregate-put-hex
 slice-aggregate-put-hex c = search needs
 
--- src/line.rt:52:5
 put-hex-requires : tie.Need-put-hex-requires
 put-hex-requires c κs =
     let n = decimal-most ((c .before .before .before .before .before .before .before .before .before .before .before .before .before .before) .args .rev .number .0) in
     let h : length ((c .before .before .before .before .before .before .before .before .before .before .before .before .before .before) .args .rev .hash) ≡ 16 = search needs in
     omega arith
 
--- src/line.rt:44:1
 same-length : tie.Need-same-length
 same-length c = search needs
 
--- src/line.rt:44:1
 returns : tie.Need-returns
 unfolding text
-returns c = 
+returns c =
     let n = decimal-most ((c .before .before .before .before .before .before .before .before .before .before .before .before .before .before .before .before .before) .args .rev .number .0) in
     let h : length ((c .before .before .before .before .before .before .before .before .before .before .before .before .before .before .before .before .before) .args .rev .hash) ≡ 16 = search needs in
     let l = length-hex ((c .before .before .before .before .before .before .before .before .before .before .before .before .before .before .before .before .before) .args .rev .hash) in

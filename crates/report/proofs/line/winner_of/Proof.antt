@@ -6,37 +6,27 @@ use Rattle.report.proofs.StandingLaws.{not-nobody, winner-row}
 use borrow.Author.Needs.{needs}
 use Rattle.report.proofs.line.winner_of.Statement.{statement}
 use Rattle.report.proofs.line.winner_of.Tie as tie
-use Rattle.report.proofs.line.winner_of.Reads as reads
-use Rattle.report.proofs.line.winner_of.Lts as lts
-use Rattle.tree.proofs.leaf.winner_at.Reads as winner-at-reads
-use Rattle.tree.proofs.table.rev_at.Reads as rev-at-reads
 
--- src/line.rt:105:25
 winner-at-requires : tie.Need-winner-at-requires
 winner-at-requires c κs = search needs
 
--- src/line.rt:105:20
 enum-known-i : tie.Need-enum-known-i
 enum-known-i c = search needs
 
--- src/line.rt:108:21
 enum-told : tie.Need-enum-told
 enum-told c = search needs
 
--- src/line.rt:107:9
 returns : tie.Need-returns
-returns c = 
+returns c =
     absurd (not-nobody (treeAt ((c .before .before .before .before) .args .base) ((c .before .before .before .before) .args .n) ((c .before .before .before .before) .args .b .now)) ((c .before .before .before .before) .pre .tree) (let g = (c .enum-told) .given in cc))
 
--- src/line.rt:112:5
 rev-at-requires : tie.Need-rev-at-requires
-rev-at-requires c κs = 
+rev-at-requires c κs =
     let w = winner-row (treeAt ((c .before .before .before .before .before) .args .base) ((c .before .before .before .before .before) .args .n) ((c .before .before .before .before .before) .args .b .now)) ((c .before .before .before .before .before) .pre .tree) ((c .before .before .before .before .before) .args .base) ((c .before .before .before .before .before) .args .n) ((c .before .i) .given .0 .0) ((c .before .before .before .before .before) .args .b .now) refl (let g = (c .before .i) .given .1 in cc) in
     omega (arith, w .0, (c .before .before .before .before .before) .pre .within)
 
--- src/line.rt:101:1
 returns-2 : tie.Need-returns-2
-returns-2 c = 
+returns-2 c =
     let w = winner-row (treeAt ((c .before .before .before .before .before .before) .args .base) ((c .before .before .before .before .before .before) .args .n) ((c .before .before .before .before .before .before) .args .b .now)) ((c .before .before .before .before .before .before) .pre .tree) ((c .before .before .before .before .before .before) .args .base) ((c .before .before .before .before .before .before) .args .n) ((c .before .before .i) .given .0 .0) ((c .before .before .before .before .before .before) .args .b .now) refl (let g = (c .before .before .i) .given .1 in cc) in
     (c .rev-at) .ensures ∙ w .1
 
