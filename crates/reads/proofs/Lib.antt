@@ -5,4 +5,5 @@ pub mod OpenLaws
 pub mod DocumentLaws
 pub mod MissingLaws
 pub mod NextLaws
+pub mod LowestLaws
 pub mod Outcomes

@@ -50,7 +50,7 @@ module _ (s : Seq) (d : ℕ) (q : Seq) where
   sooner-above n e p h f l = rw (f, lt-ltb _ _ h, lt-leb _ _ l)
 
 -- the first of a sorted list with one more in it
-first-insert : (x : Id × Document) (l : List (Id × Document)) (y : Id × Document) → firstOf l ≡ some y
+pub first-insert : (x : Id × Document) (l : List (Id × Document)) (y : Id × Document) → firstOf l ≡ some y
     → firstOf (insertBySeq x l) ≡ pick (leb (x .1 .seq .0) (y .1 .seq .0)) (some x) (some y)
 unfolding insertBySeq
 first-insert x [] y e = absurd (none≢some e)
