@@ -22,7 +22,7 @@ use tree::table::is_missing;
 use tree::table::kind_at;
 use tree::table::rev_at;
 ghost use mathlib.Core.Path.{_≡_};
-ghost use Prim.Native.Nat.{ℕ, _+_, _*_, _≤_};
+ghost use Prim.Native.Nat.{ℕ, _+_, _≤_};
 ghost use lib.ListN.{length};
 ghost use Rattle.rules.specs.Bytes.{part};
 ghost use Rattle.rules.specs.Outcome.{Does};
