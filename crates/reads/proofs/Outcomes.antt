@@ -1,6 +1,7 @@
 -- Each public function has one outcome. Assumes nothing.
 use mathlib.Core.Path.{refl}
-use Rattle.rules.specs.Outcome.{OneOutcome, nothing, fixed, does-one}
+use Rattle.rules.specs.Outcome.{OneOutcome, nothing}
+use Rattle.rules.proofs.OutcomeLaws.{fixed, does-one}
 use Rattle.reads.proofs.document.winner.Kinds as winner
 use Rattle.reads.proofs.document.winner.Reads as winner'
 use Rattle.reads.proofs.document.leaves.Kinds as leaves
