@@ -6,3 +6,4 @@ pub mod ReachLaws
 pub mod EditLaws
 pub mod FormLaws
 pub mod PassLaws
+pub mod StateLaws
