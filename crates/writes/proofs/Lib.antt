@@ -7,3 +7,4 @@ pub mod EditLaws
 pub mod FormLaws
 pub mod PassLaws
 pub mod StateLaws
+pub mod JudgeLaws

@@ -98,10 +98,10 @@ module _ (r : Replica) (w : Write) (d : ℕ) (f : Tree → Tree) where
   unfolding withSeq withTree added documentAt
   added-held a e =
       let m : modify d (setSeq q) (modify d (setTree f) (r .documents)) ≡ alter orderBytes (w .id) F (r .documents) =
-          modify-twice d (setSeq q) (setTree f) (r .documents)
-          ∙ (modify-here d both (λ x. (x .0, F (some (x .1)))) (r .documents) noDocument
-          (ap {B = Id × Document} (λ (t : Tree). (getD (r .documents) d noDocument .0, record { seq = q; tree = t })) e)
-          ∙ sym (a .altered F)) in
+      modify-twice d (setSeq q) (setTree f) (r .documents)
+      ∙ (modify-here d both (λ x. (x .0, F (some (x .1)))) (r .documents) noDocument
+      (ap {B = Id × Document} (λ (t : Tree). (getD (r .documents) d noDocument .0, record { seq = q; tree = t })) e)
+      ∙ sym (a .altered F)) in
       ap {B = Replica} (λ (ds : Map Id Document). record { seq = q; documents = ds }) m
 
   -- a document that is not
@@ -110,7 +110,7 @@ module _ (r : Replica) (w : Write) (d : ℕ) (f : Tree → Tree) where
   unfolding withSeq withTree withDocument added
   added-new a e =
       let m : modify d (setSeq q) (modify d (setTree f) (insertAt d (blank (w .id)) (r .documents))) ≡ alter orderBytes (w .id) F (r .documents) =
-          modify-twice d (setSeq q) (setTree f) (insertAt d (blank (w .id)) (r .documents))
-          ∙ (modify-insert d both (blank (w .id)) (r .documents) (a .within)
-          ∙ (ap (λ (t : Tree). insertAt d (w .id, record { seq = q; tree = t }) (r .documents)) e ∙ sym (a .altered F))) in
+      modify-twice d (setSeq q) (setTree f) (insertAt d (blank (w .id)) (r .documents))
+      ∙ (modify-insert d both (blank (w .id)) (r .documents) (a .within)
+      ∙ (ap (λ (t : Tree). insertAt d (w .id, record { seq = q; tree = t }) (r .documents)) e ∙ sym (a .altered F))) in
       ap {B = Replica} (λ (ds : Map Id Document). record { seq = q; documents = ds }) m

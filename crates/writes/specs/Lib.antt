@@ -3,3 +3,4 @@ pub mod Path
 pub mod Plan
 pub mod Edit
 pub mod Verdict
+pub mod Judge
