@@ -18,7 +18,7 @@ use Rattle.rules.proofs.ByteLaws.{length-pieces}
 use Rattle.writes.specs.Path.{countOf, badBytes, GoodForm}
 use Rattle.writes.proofs.ReachLaws.{or-left, or-right}
 
-length-hashes : (w : Write) → length (hashes w) ≡ countOf (w .path)
+pub length-hashes : (w : Write) → length (hashes w) ≡ countOf (w .path)
 unfolding hashes countOf
 length-hashes w = length-pieces (length (w .path) / hashSize) hashSize (w .path)
 

@@ -8,3 +8,4 @@ pub mod FormLaws
 pub mod PassLaws
 pub mod StateLaws
 pub mod JudgeLaws
+pub mod LearnLaws

@@ -4,3 +4,4 @@ pub mod Plan
 pub mod Edit
 pub mod Verdict
 pub mod Judge
+pub mod Apply
