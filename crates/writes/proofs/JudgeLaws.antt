@@ -20,7 +20,7 @@ use Rattle.rules.specs.Write.{Write, gives, added, adds, isNone, countNew, badI
 use Rattle.writes.specs.declared.plan.Plan.{Plan}
 use Rattle.writes.specs.Judge.{judged}
 use Rattle.writes.specs.Plan.{planOf}
-use Rattle.writes.proofs.FormLaws.{none-first}
+use Rattle.writes.proofs.FormLaws.{none-first, first-empty, first-holds, first-fails}
 use Rattle.writes.proofs.PlanLaws.{plan-crossed, plan-other, plan-revisions, plan-adds}
 
 first-append : {A : Type 0} (xs ys : List (Bool × A)) → firstThat xs ≡ none → firstThat (xs ++ ys) ≡ firstThat ys
@@ -107,3 +107,40 @@ clear-says r absent p e =
     and-true : (a b : Bool) → a ≡ true → (a && b) ≡ false → b ≡ false
     and-true true b e f = f
     and-true false b e f = let z : _≡_ {A = ℕ} 0 1 = cc in absurd (omega arith)
+
+-- ---- the verdict, test by test
+
+module _ (r : Replica) (absent : Bool) (p : Plan) where
+  abbrev full : Bool
+  full = absent && leb documentsMost (length (r .documents))
+
+  abbrev over : Bool
+  over = ltb revisionsMost (revisionsHeld (r .documents) + p .revisions)
+
+  abbrev spent : Bool
+  spent = not (eqb (p .reach) 0) && eqb (r .seq .0) last
+
+  pub judge-4 : p .crossed ≡ true → firstThat (judged r absent p) ≡ some OtherParent
+  unfolding judged
+  judge-4 a = first-holds (p .crossed) OtherParent _ a
+
+  pub judge-5 : p .crossed ≡ false → p .other ≡ true → firstThat (judged r absent p) ≡ some OtherContent
+  unfolding judged
+  judge-5 a b = first-fails (p .crossed) OtherParent _ a ∙ first-holds (p .other) OtherContent _ b
+
+  past-5 : p .crossed ≡ false → p .other ≡ false → firstThat (judged r absent p) ≡ firstThat ((full, DocumentsFull) ∷ (over, RevisionsFull) ∷ (spent, SequenceSpent) ∷ [])
+  unfolding judged
+  past-5 a b = first-fails (p .crossed) OtherParent _ a ∙ first-fails (p .other) OtherContent _ b
+
+  pub judge-6 : p .crossed ≡ false → p .other ≡ false → full ≡ true → firstThat (judged r absent p) ≡ some DocumentsFull
+  judge-6 a b c = past-5 a b ∙ first-holds full DocumentsFull _ c
+
+  pub judge-7 : p .crossed ≡ false → p .other ≡ false → full ≡ false → over ≡ true → firstThat (judged r absent p) ≡ some RevisionsFull
+  judge-7 a b c d = past-5 a b ∙ (first-fails full DocumentsFull _ c ∙ first-holds over RevisionsFull _ d)
+
+  pub judge-8 : p .crossed ≡ false → p .other ≡ false → full ≡ false → over ≡ false → spent ≡ true → firstThat (judged r absent p) ≡ some SequenceSpent
+  judge-8 a b c d e = past-5 a b ∙ (first-fails full DocumentsFull _ c ∙ (first-fails over RevisionsFull _ d ∙ first-holds spent SequenceSpent [] e))
+
+  pub judge-clear : p .crossed ≡ false → p .other ≡ false → full ≡ false → over ≡ false → spent ≡ false → firstThat (judged r absent p) ≡ none
+  judge-clear a b c d e =
+      past-5 a b ∙ (first-fails full DocumentsFull _ c ∙ (first-fails over RevisionsFull _ d ∙ (first-fails spent SequenceSpent [] e ∙ first-empty)))

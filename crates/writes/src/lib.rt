@@ -3,5 +3,6 @@
 // cannot fail. So a refused or unchanged write leaves every byte.
 mod apply;
 mod form;
+mod judge;
 mod path;
 mod plan;
