@@ -70,6 +70,9 @@ module _ (w : Write) where
 
 -- ---- a good form
 
+pub positive : (k : ℕ) → (k ≡ 0 → ⊥) → 1 ≤ k
+positive k h = omega arith
+
 pub good-form : (w : Write) → firstThat (formRefusals w) ≡ none → GoodForm w
 unfolding badId badBytes countOf
 good-form w e =
@@ -92,6 +95,3 @@ good-form w e =
       id-least = positive (length (w .id)) u;
       id-most = v;
     }
-  where
-    positive : (k : ℕ) → (k ≡ 0 → ⊥) → 1 ≤ k
-    positive k h = omega arith

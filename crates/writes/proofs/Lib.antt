@@ -9,3 +9,4 @@ pub mod PassLaws
 pub mod StateLaws
 pub mod JudgeLaws
 pub mod LearnLaws
+pub mod WriteLaws

@@ -6,3 +6,4 @@ mod form;
 mod judge;
 mod path;
 mod plan;
+mod settle;
