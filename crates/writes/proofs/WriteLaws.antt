@@ -17,26 +17,30 @@ use Rattle.rules.specs.declared.RevNumber.{RevNumber}
 use Rattle.rules.specs.declared.Seq.{Seq}
 use Rattle.rules.specs.declared.Written.{Written}
 use Rattle.rules.specs.declared.Written.the-variants as written
+use Rattle.rules.specs.Bytes.{Bytes}
 use Rattle.rules.specs.Choice.{pick, firstThat, any}
 use Rattle.rules.specs.Map.{Map, find, Ascending}
 use Rattle.rules.specs.Order.{orderRev}
 use Rattle.rules.specs.Replica.{Id, Node, Tree, Document, Replica, documentOf, treeOf, revisionsHeld, IsTree, IsReplica}
 use Rattle.rules.specs.Room.{hashesMost, last}
+use Rattle.rules.specs.Union.{IsWrite}
 use Rattle.rules.specs.Write.{Write, gives, addAll, next, added, isNone, isNew, isAddition, countNew, otherParent, formRefusals, write}
+use Rattle.tree.specs.declared.table.Found.the-variants.{At}
 use Rattle.tree.specs.Table.{treeAt, insertAt, Searchable}
 use Rattle.store.specs.declared.read.Body.{Body}
 use Rattle.store.specs.Storage.{rowsPlace, stored, replicaOf, Laid, IsStored}
-use Rattle.store.specs.Documents.{noDocument, documentsOf, documentAt, HasDocument, IsBody, Shows}
+use Rattle.store.specs.Documents.{noDocument, documentsOf, documentAt, placeOfId, HasDocument, IsBody}
 use Rattle.store.specs.Change.{blank, withDocument, withSeq, withTree, Holds, CanAddDocument}
 use Rattle.store.proofs.FitLaws.{stored-laid}
 use Rattle.store.proofs.PlaceLaws.{IsAt, IsGap, id-found, id-gap}
 use Rattle.store.proofs.TableLaws.{length-insert}
 use Rattle.store.proofs.BodyLaws.{body-shows, absent-shows}
+use Rattle.union.proofs.Demand3.{write-keeps}
 use Rattle.writes.specs.declared.form.Verdict.{Verdict}
 use Rattle.writes.specs.declared.form.Verdict.the-variants as verdict
 use Rattle.writes.specs.declared.plan.Plan.{Plan}
 use Rattle.writes.specs.Apply.{CanLearnPath, CanApply}
-use Rattle.writes.specs.Judge.{judged, Does, CanWriteHeld, CanWriteNew}
+use Rattle.writes.specs.Judge.{judged, Does, CanWriteHeld, CanWriteNew, Wrote}
 use Rattle.writes.specs.Path.{writeOf, countOf, GoodForm, givesOf, addLast}
 use Rattle.writes.specs.Plan.{planOf, CanPlan}
 use Rattle.writes.specs.Verdict.{verdictOf}
@@ -267,8 +271,8 @@ module _ {s : List ℕ} {d : ℕ} {number : RevNumber} {path : List ℕ} {c : Co
       unfolding countOf
       held-added s′ h =
           let e = newest-whole held-tree held-write (sound-tree held-tree held-is) held-good m
-              (least ∙ ap (λ (x : Plan). min (x .reach) (length path / 16)) plan-is) (λ z. adds (ap (λ (x : Plan). x .reach) plan-is ∙ z))
-              (sym (ap (λ (x : Plan). x .crossed) plan-is) ∙ clear .crossed) in
+          (least ∙ ap (λ (x : Plan). min (x .reach) (length path / 16)) plan-is) (λ z. adds (ap (λ (x : Plan). x .reach) plan-is ∙ z))
+          (sym (ap (λ (x : Plan). x .crossed) plan-is) ∙ clear .crossed) in
           holds-same _ (added (replicaOf s) held-write) s′
           (added-held (replicaOf s) held-write d (addLast (take m (givesOf number path c))) held-at
           (e ∙ ap (addAll (gives held-write)) (sym tree-is))) h
@@ -388,6 +392,49 @@ module _ {s : List ℕ} {d : ℕ} {i : Id} {number : RevNumber} {path : List ℕ
         new-added s₂ h =
             let f = addLast (take (length path / 16) (givesOf number path c)) in
             let e : f [] ≡ addAll (gives new-write) (treeOf (replicaOf s) i) =
-                all-whole [] new-write sound-none new-good (length path / 16) refl ∙ ap (addAll (gives new-write)) (sym no-tree) in
+            all-whole [] new-write sound-none new-good (length path / 16) refl ∙ ap (addAll (gives new-write)) (sym no-tree) in
             holds-same _ (added (replicaOf s) new-write) s₂
             (ap₂ (λ (q : Seq) (x : Replica). withSeq d (next q) (withTree d f x)) seq-is (opened .means) ∙ added-new (replicaOf s) new-write d f new-gap e) h
+
+-- ---- the promise
+
+pub bytes-all : (s : List ℕ) → ((i : ℕ) → getD s i 0 < 256) → Bytes s
+bytes-all [] h = tt
+bytes-all (x ∷ s) h = (h 0, bytes-all s (λ i. h (suc i)))
+
+-- what is left is a replica
+pub wrote : {s s′ : List ℕ} {w : Write} {r : Written} → IsStored s → IsWrite w → Does s w r s′ → Wrote s w r s′
+wrote {s} {s′} {w} i q d =
+    record {
+      answer = d .answer;
+      left = d .holds .bytes;
+      is = record {
+        same = d .holds .laid .same;
+        replica = subst IsReplica (sym (d .holds .means)) (write-keeps (replicaOf s) w (i .replica) q);
+      };
+    }
+
+-- a form that is refused leaves what was there
+pub wrote-formless : {s : List ℕ} {w : Write} {n : Refusal} → IsStored s → firstThat (formRefusals w) ≡ some n → Wrote s w (written.Refused n) s
+wrote-formless {s} {w} {n} i e =
+    let d = does-formless s w n (stored-laid s i) e in
+    record { answer = d .answer; left = d .holds .bytes; is = i }
+
+-- a write of a good form, from what was found
+module _ {s : List ℕ} (i : Id) (number : RevNumber) (path : List ℕ) (c : Content) (stored : IsStored s) where
+  pub found-held : (d : ℕ) → placeOfId 0 i (documentsOf s) ≡ At d → firstThat (formRefusals (writeOf i number path c)) ≡ none → CanWriteHeld s d number path c
+  found-held d e f =
+      let q : i ≡ documentAt (documentsOf s) d .0 = sym (id-found d i (documentsOf s) e .is) in
+      record {
+        stored = stored;
+        place = subst (λ (x : Id). placeOfId 0 x (documentsOf s) ≡ At d) q e;
+        form = subst (λ (x : Id). firstThat (formRefusals (writeOf x number path c)) ≡ none) q f;
+      }
+
+  pub wrote-new : {s′ : List ℕ} {r : Written} (o : Content) → c ≡ o → IsWrite (writeOf i number path c) → Does s (writeOf i number path c) r s′ → Wrote s (writeOf i number path o) r s′
+  wrote-new {s′} {r} o e q h = subst (λ (x : Content). Wrote s (writeOf i number path x) r s′) e (wrote stored q h)
+
+  pub wrote-held : {s′ : List ℕ} {r : Written} (o : Content) → c ≡ o → IsWrite (writeOf i number path c) → (d : ℕ) → placeOfId 0 i (documentsOf s) ≡ At d
+      → Does s (writeOf (documentAt (documentsOf s) d .0) number path c) r s′ → Wrote s (writeOf i number path o) r s′
+  wrote-held {s′} {r} o e q d p h =
+      wrote-new o e q (subst (λ (x : Id). Does s (writeOf x number path c) r s′) (id-found d i (documentsOf s) p .is) h)

@@ -26,7 +26,13 @@ fn lesser(a: usize, b: usize) -> usize
 }
 
 // Writes to document d.
-pub(crate) fn write_held(b: &mut [u8], d: usize, number: RevNumber, path: &[u8], content: Content) -> Written
+pub(crate) fn write_held(
+    b: &mut [u8],
+    d: usize,
+    number: RevNumber,
+    path: &[u8],
+    content: Content,
+) -> Written
     requires { ⌜ CanWriteHeld (now b) d number (now path) content ⌝ }
     ensures { λ r. ⌜ Does (now (b .entry)) (writeOf (documentAt (documentsOf (now (b .entry))) d .0) number (now (path .entry)) content) r (now (b .exit)) ⌝ }
 {
@@ -44,7 +50,14 @@ pub(crate) fn write_held(b: &mut [u8], d: usize, number: RevNumber, path: &[u8],
 }
 
 // Writes to the document `id`, which is absent and goes in at d.
-pub(crate) fn write_new(b: &mut [u8], d: usize, id: &[u8], number: RevNumber, path: &[u8], content: Content) -> Written
+pub(crate) fn write_new(
+    b: &mut [u8],
+    d: usize,
+    id: &[u8],
+    number: RevNumber,
+    path: &[u8],
+    content: Content,
+) -> Written
     requires { ⌜ CanWriteNew (now b) d (now id) number (now path) content ⌝ }
     ensures { λ r. ⌜ Does (now (b .entry)) (writeOf (now (id .entry)) number (now (path .entry)) content) r (now (b .exit)) ⌝ }
 {
