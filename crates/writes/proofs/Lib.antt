@@ -10,3 +10,5 @@ pub mod StateLaws
 pub mod JudgeLaws
 pub mod LearnLaws
 pub mod WriteLaws
+pub mod Outcomes
+pub mod Frame

@@ -17,7 +17,7 @@ use Rattle.rules.specs.declared.RevNumber.{RevNumber}
 use Rattle.rules.specs.declared.Seq.{Seq}
 use Rattle.rules.specs.declared.Written.{Written}
 use Rattle.rules.specs.declared.Written.the-variants as written
-use Rattle.rules.specs.Bytes.{Bytes}
+use Rattle.rules.specs.Bytes.{pieces, Bytes}
 use Rattle.rules.specs.Choice.{pick, firstThat, any}
 use Rattle.rules.specs.Map.{Map, find, Ascending}
 use Rattle.rules.specs.Order.{orderRev}
@@ -28,13 +28,13 @@ use Rattle.rules.specs.Write.{Write, gives, addAll, next, added, isNone, isNew,
 use Rattle.tree.specs.declared.table.Found.the-variants.{At}
 use Rattle.tree.specs.Table.{treeAt, insertAt, Searchable}
 use Rattle.store.specs.declared.read.Body.{Body}
-use Rattle.store.specs.Storage.{rowsPlace, stored, replicaOf, Laid, IsStored}
+use Rattle.store.specs.Storage.{stored, replicaOf, Laid, IsStored}
 use Rattle.store.specs.Documents.{noDocument, documentsOf, documentAt, placeOfId, HasDocument, IsBody}
 use Rattle.store.specs.Change.{blank, withDocument, withSeq, withTree, Holds, CanAddDocument}
 use Rattle.store.proofs.FitLaws.{stored-laid}
 use Rattle.store.proofs.PlaceLaws.{IsAt, IsGap, id-found, id-gap}
 use Rattle.store.proofs.TableLaws.{length-insert}
-use Rattle.store.proofs.BodyLaws.{body-shows, absent-shows}
+use Rattle.store.proofs.BodyLaws.{body-shows}
 use Rattle.union.proofs.Demand3.{write-keeps}
 use Rattle.writes.specs.declared.form.Verdict.{Verdict}
 use Rattle.writes.specs.declared.form.Verdict.the-variants as verdict
@@ -299,20 +299,18 @@ module _ {s : List ℕ} {d : ℕ} {i : Id} {number : RevNumber} {path : List ℕ
   unfolding documentOf
   new-absent = ap isNone (new-gap .found)
 
-  no-rows : treeAt rowsPlace 0 s ≡ []
-  no-rows = absent-shows s i d new-laid (can .place) .tree ∙ no-tree
+  no-rows : treeAt 0 0 s ≡ []
+  unfolding treeAt pieces
+  no-rows = refl
 
-  pub new-can-plan : CanPlan s rowsPlace 0 (number .0) path
+  pub new-can-plan : CanPlan s 0 0 (number .0) path
   new-can-plan = record {
-    search = record {
-      within = absent-shows s i d new-laid (can .place) .within;
-      ascending = subst (Ascending orderRev) (sym no-rows) tt;
-    };
+    search = record { within = omega arith; ascending = subst (Ascending orderRev) (sym no-rows) tt };
     most = new-good .most;
     deep = new-good .deep;
   }
 
-  module _ {p : Plan} (plan : p ≡ planOf (treeAt rowsPlace 0 s) (givesOf number path c)) where
+  module _ {p : Plan} (plan : p ≡ planOf (treeAt 0 0 s) (givesOf number path c)) where
     new-planned : p ≡ planOf (treeOf (replicaOf s) i) (gives new-write)
     new-planned = plan ∙ ap₂ planOf (no-rows ∙ sym no-tree) (sym (gives-of new-write))
 
@@ -408,6 +406,7 @@ wrote {s} {s′} {w} i q d =
     record {
       answer = d .answer;
       left = d .holds .bytes;
+      means = d .holds .means;
       is = record {
         same = d .holds .laid .same;
         replica = subst IsReplica (sym (d .holds .means)) (write-keeps (replicaOf s) w (i .replica) q);
@@ -418,7 +417,7 @@ wrote {s} {s′} {w} i q d =
 pub wrote-formless : {s : List ℕ} {w : Write} {n : Refusal} → IsStored s → firstThat (formRefusals w) ≡ some n → Wrote s w (written.Refused n) s
 wrote-formless {s} {w} {n} i e =
     let d = does-formless s w n (stored-laid s i) e in
-    record { answer = d .answer; left = d .holds .bytes; is = i }
+    record { answer = d .answer; left = d .holds .bytes; means = d .holds .means; is = i }
 
 -- a write of a good form, from what was found
 module _ {s : List ℕ} (i : Id) (number : RevNumber) (path : List ℕ) (c : Content) (stored : IsStored s) where

@@ -55,10 +55,12 @@ pub record CanWriteNew (s : List ℕ) (d : ℕ) (i : Id) (number : RevNumber) (p
 pub record Wrote (s : List ℕ) (w : Write) (r : Written) (after : List ℕ) : Type 0 where
   pub answer : r ≡ write (replicaOf s) w .0
   pub left : after ≡ stored (write (replicaOf s) w .1)
+  pub means : replicaOf after ≡ write (replicaOf s) w .1
   pub is : IsStored after
 
 -- what an edit promises
 pub record Edits (s : List ℕ) (e : Edit) (r : Edited) (after : List ℕ) : Type 0 where
   pub answer : r ≡ edit (replicaOf s) e .0
   pub left : after ≡ stored (edit (replicaOf s) e .1)
+  pub means : replicaOf after ≡ edit (replicaOf s) e .1
   pub is : IsStored after

@@ -5,3 +5,4 @@ pub mod Edit
 pub mod Verdict
 pub mod Judge
 pub mod Apply
+pub mod Always

@@ -7,7 +7,6 @@ use rules::Content;
 use rules::Outcome;
 use rules::RevNumber;
 use rules::Written;
-use store::ROWS;
 use store::change::add_document;
 use store::read::body_of;
 ghost use mathlib.Core.Path.{_≡_};
@@ -61,7 +60,7 @@ pub(crate) fn write_new(
     requires { ⌜ CanWriteNew (now b) d (now id) number (now path) content ⌝ }
     ensures { λ r. ⌜ Does (now (b .entry)) (writeOf (now (id .entry)) number (now (path .entry)) content) r (now (b .exit)) ⌝ }
 {
-    let p = plan_path(b, ROWS, 0, number, path, content);
+    let p = plan_path(b, 0, 0, number, path, content);
     if let Verdict::Refused(n) = judge(b, true, p) {
         return Written::Refused(n);
     }
