@@ -1,0 +1,75 @@
+-- What makes a head or an entry bad, as the code asks it: one test after the other. Assumes nothing.
+use mathlib.Core.Path.{_≡_, sym, ap, _∙_}
+use mathlib.Core.Bool.{true, false, not}
+use mathlib.Core.List.{List}
+use mathlib.Core.Option.{Option}
+use Prim.Native.Nat.{ℕ, _-_, _≤_}
+use lib.Dec.{eqb, ltb}
+use lib.ListN.{length}
+use borrow.Author.Tests.{ltb-false, eqb-true, not-false, le-ltb, eq-eqb}
+use Rattle.rules.specs.Image.{Entry, headOf, badHead, badEntry, notAbove, allZero, totalLength}
+use Rattle.rules.specs.Replica.{Id}
+use Rattle.images.proofs.Tests.{none5, all5}
+use Rattle.images.proofs.Entries.{entry-rules, rules-entry}
+use Rattle.faults.specs.Places.{Headed}
+use Rattle.faults.proofs.TestLaws.{last-one}
+
+-- ---- 22
+
+-- "zero field not zero, d over 32, r over 512, total not by the formula or not the given length"
+pub record HeadRules (s : List ℕ) : Type 0 where
+  pub zero : headOf s .zero ≡ 0
+  pub documents : headOf s .documents ≤ 32
+  pub revisions : headOf s .revisions ≤ 512
+  pub total : headOf s .total ≡ totalLength (headOf s .documents) (headOf s .revisions)
+  pub given : headOf s .total ≡ length s
+
+module _ (s : List ℕ) where
+  pub head-rules : badHead s ≡ false → HeadRules s
+  unfolding badHead
+  head-rules e =
+      let h = headOf s in
+      let n =
+      none5 (not (eqb (h .zero) 0)) (ltb 32 (h .documents)) (ltb 512 (h .revisions))
+      (not (eqb (h .total) (totalLength (h .documents) (h .revisions)))) (not (eqb (h .total) (length s))) e in
+      record {
+        zero = eqb-true (h .zero) 0 (not-false (eqb (h .zero) 0) (n .0));
+        documents = ltb-false 32 (h .documents) (n .1);
+        revisions = ltb-false 512 (h .revisions) (n .2);
+        total = eqb-true (h .total) (totalLength (h .documents) (h .revisions)) (not-false (eqb (h .total) (totalLength (h .documents) (h .revisions))) (n .3));
+        given = eqb-true (h .total) (length s) (not-false (eqb (h .total) (length s)) (n .4));
+      }
+
+  pub rules-head : HeadRules s → badHead s ≡ false
+  unfolding badHead
+  rules-head r =
+      let h = headOf s in
+      all5 (not (eqb (h .zero) 0)) (ltb 32 (h .documents)) (ltb 512 (h .revisions))
+      (not (eqb (h .total) (totalLength (h .documents) (h .revisions)))) (not (eqb (h .total) (length s))) (
+        ap not (eq-eqb (h .zero) 0 (r .zero)),
+        le-ltb 32 (h .documents) (r .documents),
+        le-ltb 512 (h .revisions) (r .revisions),
+        ap not (eq-eqb (h .total) (totalLength (h .documents) (h .revisions)) (r .total)),
+        ap not (eq-eqb (h .total) (length s) (r .given)),
+      )
+
+  -- what is left where 22 finds nothing
+  pub headed : badHead s ≡ false → Headed s
+  headed e = let r = head-rules e in record { documents = r .documents; revisions = r .revisions; size = sym (r .given) ∙ r .total }
+
+  -- the length is what is left to ask
+  pub head-given : headOf s .zero ≡ 0 → headOf s .documents ≤ 32 → headOf s .revisions ≤ 512
+      → headOf s .total ≡ totalLength (headOf s .documents) (headOf s .revisions) → not (eqb (headOf s .total) (length s)) ≡ badHead s
+  head-given z d r t =
+      sym (last-one (badHead s) (not (eqb (headOf s .total) (length s)))
+      (λ e. ap not (eq-eqb (headOf s .total) (length s) (head-rules e .given)))
+      (λ e. rules-head record { zero = z; documents = d; revisions = r; total = t; given = eqb-true (headOf s .total) (length s) (not-false (eqb (headOf s .total) (length s)) e) }))
+
+-- ---- 23
+
+-- the id's order is what is left to ask
+pub entry-above : (place : ℕ) (before : Option Id) (e : Entry) → 1 ≤ e .size → e .size ≤ 32 → allZero (e .fill) ≡ true → e .zero ≡ 0
+    → 1 ≤ e .rows → e .place ≡ place → badEntry place before e ≡ notAbove before (e .id)
+entry-above place before e l m f z r p =
+    last-one (badEntry place before e) (notAbove before (e .id)) (λ q. entry-rules place before e q .above)
+    (λ q. rules-entry place before e record { least = l; most = m; fill = f; zero = z; rows = r; place = p; above = q })

@@ -1,0 +1,5 @@
+-- Laws that this crate's proofs share.
+pub mod TestLaws
+pub mod FieldLaws
+pub mod FirstLaws
+pub mod JudgeLaws
