@@ -3,3 +3,4 @@ pub mod TestLaws
 pub mod FieldLaws
 pub mod FirstLaws
 pub mod JudgeLaws
+pub mod RowLaws

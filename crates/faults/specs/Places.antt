@@ -1,11 +1,12 @@
 -- Places of faults, and the entries and rows that are looked at.
 use mathlib.Core.Path.{_≡_}
-use mathlib.Core.List.{List, [], _∷_}
+use mathlib.Core.List.{List, [], _∷_, map}
 use mathlib.Core.Option.{Option, none, some}
 use Prim.Native.Nat.{ℕ, zero, suc, _+_, _*_, _≤_, _<_}
-use lib.ListN.{length}
-use Rattle.rules.specs.Bytes.{part}
-use Rattle.rules.specs.Image.{Entry, entryOf, headOf, headSize, entrySize, totalLength}
+use lib.ListN.{length, drop}
+use Rattle.rules.specs.Bytes.{part, pieces}
+use Rattle.rules.specs.declared.Revision.{Revision}
+use Rattle.rules.specs.Image.{Entry, entryOf, Row, rowOf, headOf, entriesOf, sumRows, headSize, entrySize, rowSize, totalLength}
 use Rattle.rules.specs.Replica.{Id}
 use Rattle.rules.specs.Room.{documentsMost, revisionsMost, idMost}
 use Rattle.faults.specs.declared.Place.{Place}
@@ -63,3 +64,32 @@ seqsBefore (suc i) s = seqAt i s ∷ seqsBefore i s
 pub record OwnSeq (i : ℕ) (s : List ℕ) (q : ℕ) : Type 0 where
   pub is : q ≡ seqAt i s
   pub small : q < 4294967296
+
+-- n is the number of rows that entry i gives
+pub record RowCount (i : ℕ) (s : List ℕ) (n : ℕ) : Type 0 where
+  pub is : n ≡ entryAt i s .rows
+  pub small : n < 65536
+
+-- what 23 leaves: the entries' rows are all rows
+pub record Listed (s : List ℕ) : Type 0 where
+  pub headed : Headed s
+  pub sum : sumRows (entriesOf s) ≡ headOf s .revisions
+
+-- ---- rows
+
+unfoldable pub rowAt : ℕ → List ℕ → Row
+rowAt at s = rowOf (part at rowSize s)
+
+-- n rows from base on
+unfoldable pub rowsAt : ℕ → ℕ → List ℕ → List Row
+rowsAt base n s = map rowOf (pieces n rowSize (drop base s))
+
+-- the revision of the row before row j
+abbrev pub revBefore : ℕ → ℕ → List ℕ → Option Revision
+revBefore base zero s = none
+revBefore base (suc j) s = some (rowAt (base + j * rowSize) s .rev)
+
+-- n rows from base on are there, and so are k before them
+pub record HasRows (base n k : ℕ) (s : List ℕ) : Type 0 where
+  pub within : base + n * rowSize ≤ length s
+  pub most : k + n ≤ revisionsMost

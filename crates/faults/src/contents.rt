@@ -15,7 +15,7 @@ ghost use mathlib.Core.Option.{none};
 ghost use Prim.Native.Nat.{ℕ, _+_, _*_, _≤_};
 ghost use lib.ListN.{length};
 ghost use Rattle.rules.specs.Image.{badContents, badEntry, notAbove, headSize, entrySize};
-ghost use Rattle.faults.specs.Places.{placed, Headed, entryAt, idBefore, HasEntry, HasId, IdSize};
+ghost use Rattle.faults.specs.Places.{placed, Headed, entryAt, idBefore, HasEntry, HasId, IdSize, RowCount};
 
 // The id length that entry i gives.
 fn id_size(s: &[u8], i: usize) -> usize
@@ -65,13 +65,21 @@ fn entry_bad(s: &[u8], i: usize, place: usize) -> bool
     if s[e] != 0 {
         return true;
     }
-    if get2(s, at + 34) == 0 {
+    if row_count(s, i) == 0 {
         return true;
     }
     if get4(s, at + 40) as usize != place {
         return true;
     }
     id_bad(s, i)
+}
+
+// How many rows entry i gives.
+pub(crate) fn row_count(s: &[u8], i: usize) -> usize
+    requires { ⌜ headSize + entrySize * i + entrySize ≤ length (now s) ⌝ }
+    ensures { λ r. ⌜ RowCount i (now (s .entry)) r ⌝ }
+{
+    get2(s, HEAD + ENTRY * i + 34)
 }
 
 pub(crate) fn contents_fault(s: &[u8]) -> Place
@@ -85,7 +93,7 @@ pub(crate) fn contents_fault(s: &[u8]) -> Place
         if entry_bad(s, i, HEAD + ENTRY * d + ROW * rows) {
             return Place::At(i);
         }
-        rows += get2(s, HEAD + ENTRY * i + 34);
+        rows += row_count(s, i);
         i += 1;
     }
     if rows == revisions(s) {

@@ -3,6 +3,7 @@
 // laws of the crate images.
 pub mod contents;
 pub mod head;
+pub mod rows;
 pub mod sequence;
 
 // Where the first fault of a kind is.

@@ -10,7 +10,6 @@ use Rattle.rules.specs.Choice.{pick}
 use Rattle.rules.specs.Image.{headOf, badContents}
 use Rattle.images.proofs.Entries.{entry-rules}
 use Rattle.faults.specs.Places.{entryAt, idBefore, FitsBefore}
-use Rattle.faults.proofs.FieldLaws.{entry-rows}
 use Rattle.faults.proofs.FirstLaws.{contentsFrom, contents-all, contents-bad, contents-next, contents-end}
 use Rattle.faults.proofs.contents.contents_fault.Statement.{statement}
 use Rattle.faults.proofs.contents.contents_fault.Tie as tie
@@ -48,17 +47,8 @@ returns : tie.Need-returns Inv-loop μ-loop
 returns c = let s = (c .before .before .before .before .before .before) .args .s .now in let l = (c .before .before .before .loop) in
     sym (l .inv .3 ∙ contents-bad s ((c .before .before .before .before .documents) .result) (headOf s .revisions) (l .i) (l .rows) (omega arith) (sym ((c .before .entry-bad) .ensures) ∙ (c .if1) .taken))
 
-mul-get2 : tie.Need-mul-get2 Inv-loop μ-loop
-mul-get2 c = search needs
-
-add-get2 : tie.Need-add-get2 Inv-loop μ-loop
-add-get2 c = search needs
-
-add-get2-2 : tie.Need-add-get2-2 Inv-loop μ-loop
-add-get2-2 c = search needs
-
-get2-requires : tie.Need-get2-requires Inv-loop μ-loop
-get2-requires c κs = search needs
+row-count-requires : tie.Need-row-count-requires Inv-loop μ-loop
+row-count-requires c κs = search needs
 
 add-rows : tie.Need-add-rows Inv-loop μ-loop
 add-rows c = search needs
@@ -75,12 +65,11 @@ loop-again c = let s = (c .before .before .before .before .before .before .befor
     let d = (c .before .before .before .before .before .documents) .result in
     let place = 16 + 44 * d + 48 * l .rows in
     let good = sym ((c .before .before .entry-bad) .ensures) ∙ (c .before .if1) .left in
-    let n : (c .get2) .result ≡ entryAt i s .rows = (c .get2) .ensures .is ∙ sym (entry-rows i s) in
     let next = contents-next s d (headOf s .revisions) i (l .rows) (omega arith) good in (
       omega arith,
-      omega (arith, (c .get2) .ensures .small),
+      omega (arith, (c .row-count) .ensures .small),
       rw (add-one i) (entry-rules place (idBefore i s) (entryAt i s) good .most),
-      l .inv .3 ∙ (next ∙ ap (λ (k : ℕ). contentsFrom s d (headOf s .revisions) (i + 1) (l .rows + k)) (sym n)),
+      l .inv .3 ∙ (next ∙ ap (λ (k : ℕ). contentsFrom s d (headOf s .revisions) (i + 1) (l .rows + k)) (sym ((c .row-count) .ensures .is))),
     )
 
 revisions-requires : tie.Need-revisions-requires Inv-loop μ-loop
@@ -110,10 +99,7 @@ contents-fault-spec =
     add-entry-bad-2
     entry-bad-requires
     returns
-    mul-get2
-    add-get2
-    add-get2-2
-    get2-requires
+    row-count-requires
     add-rows
     add-i
     loop-less

@@ -10,7 +10,7 @@ use Rattle.images.proofs.Tests.{true≢false}
 use Rattle.images.proofs.Entries.{entry-rules}
 use Rattle.faults.specs.Places.{entryAt, idBefore}
 use Rattle.faults.proofs.TestLaws.{holds}
-use Rattle.faults.proofs.FieldLaws.{entry-zero, entry-rows, entry-place, fill-slice}
+use Rattle.faults.proofs.FieldLaws.{entry-zero, entry-place, fill-slice}
 use Rattle.faults.proofs.JudgeLaws.{entry-above}
 use Rattle.faults.proofs.contents.entry_bad.Statement.{statement}
 use Rattle.faults.proofs.contents.entry_bad.Tie as tie
@@ -66,14 +66,11 @@ returns-4 : tie.Need-returns-4
 returns-4 c = let a = (c .before .before .before .before .before .before .before .before .before) .args in let i = a .i in let s = a .s .now in
     holds (badEntry (a .place) (idBefore i s) (entryAt i s)) (λ q. (c .if4) .taken (sym (entry-zero i s) ∙ entry-rules (a .place) (idBefore i s) (entryAt i s) q .zero))
 
-add-get2 : tie.Need-add-get2
-add-get2 c = search needs
-
-get2-requires : tie.Need-get2-requires
-get2-requires c κs = search needs
+row-count-requires : tie.Need-row-count-requires
+row-count-requires c κs = search needs
 
 returns-5 : tie.Need-returns-5
-returns-5 c = let a = (c .before .before .before .before .before .before .before .before .before .before .before) .args in let i = a .i in let s = a .s .now in let n = (c .before .get2) .ensures .is in let e = entry-rows i s in let t = (c .if5) .taken in
+returns-5 c = let a = (c .before .before .before .before .before .before .before .before .before .before .before) .args in let i = a .i in let s = a .s .now in let n = (c .before .row-count) .ensures .is in let t = (c .if5) .taken in
     holds (badEntry (a .place) (idBefore i s) (entryAt i s)) (λ q. let h = entry-rules (a .place) (idBefore i s) (entryAt i s) q .rows in omega arith)
 
 add-get4 : tie.Need-add-get4
@@ -95,9 +92,8 @@ id-bad-requires c κs = search needs
 returns-7 : tie.Need-returns-7
 returns-7 c = let a = (c .before .before .before .before .before .before .before .before .before .before .before .before .before .before) .args in let i = a .i in let s = a .s .now in
     let n = (c .before .before .before .before .before .before .before .before .before .before .before .before .id-size) .ensures .is in
-    let r = (c .before .before .before .before .get2) .ensures .is in
+    let r = (c .before .before .before .before .row-count) .ensures .is in
     let m = (c .before .before .before .before .before .before .before .before .before .before .if2) .left in
-    let e = entry-rows i s in
     let f = ap allZero (fill-slice i s (16 + 44 * i + 1 + (c .before .before .before .before .before .before .before .before .before .before .before .before .id-size) .result) (16 + 44 * i + 33) (omega arith) (omega arith) refl) in
     let z : allZero (entryAt i s .fill) ≡ true = sym f ∙ (sym ((c .before .before .before .before .before .before .before .before .all-zero) .ensures) ∙ not-false ((c .before .before .before .before .before .before .before .before .all-zero) .result) ((c .before .before .before .before .before .before .before .if3) .left)) in
     (c .id-bad) .ensures ∙ sym (entry-above (a .place) (idBefore i s) (entryAt i s) (omega arith) (omega arith) z
@@ -122,8 +118,7 @@ entry-bad-spec =
     returns-3
     shared-slice-read-if4
     returns-4
-    add-get2
-    get2-requires
+    row-count-requires
     returns-5
     add-get4
     get4-requires
