@@ -4,3 +4,4 @@ pub mod FieldLaws
 pub mod FirstLaws
 pub mod JudgeLaws
 pub mod RowLaws
+pub mod LinkLaws
