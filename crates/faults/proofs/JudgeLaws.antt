@@ -1,16 +1,20 @@
 -- What makes a head or an entry bad, as the code asks it: one test after the other. Assumes nothing.
-use mathlib.Core.Path.{_≡_, sym, ap, _∙_}
-use mathlib.Core.Bool.{true, false, not}
+use mathlib.Core.Path.{_≡_, refl, sym, ap, _∙_}
+use mathlib.Core.Bool.{Bool, true, false, not}
 use mathlib.Core.List.{List}
-use mathlib.Core.Option.{Option}
-use Prim.Native.Nat.{ℕ, _-_, _≤_}
+use mathlib.Core.Option.{Option, none, some}
+use Prim.Native.Nat.{ℕ, _+_, _*_, _≤_, _<_}
 use lib.Dec.{eqb, ltb}
 use lib.ListN.{length}
-use borrow.Author.Tests.{ltb-false, eqb-true, not-false, le-ltb, eq-eqb}
-use Rattle.rules.specs.Image.{Entry, headOf, badHead, badEntry, notAbove, allZero, totalLength}
+use borrow.Author.Tests.{ltb-false, eqb-true, not-false, lt-ltb, le-ltb, eq-eqb, ne-eqb}
+use Rattle.rules.specs.Image.{Entry, headOf, badHead, badEntry, notAbove, allZero, totalLength, entriesOf, sumRows, firstTrue, badEntries, badContents, badSequence, faults}
+use Rattle.rules.specs.declared.Fault.the-variants.{TooShort, BadEdition, BadHead, BadContents, BadSequence, BadRow, BadParent}
+use Rattle.rules.specs.Choice.{pick, orElse, firstThat}
 use Rattle.rules.specs.Replica.{Id}
+use Rattle.rules.proofs.MapLaws.{none≢some}
 use Rattle.images.proofs.Tests.{none5, all5}
 use Rattle.images.proofs.Entries.{entry-rules, rules-entry}
+use Rattle.faults.specs.Judged.{rowsFault, linksFault, bodyFault}
 use Rattle.faults.specs.Places.{Headed}
 use Rattle.faults.proofs.TestLaws.{last-one}
 
@@ -73,3 +77,56 @@ pub entry-above : (place : ℕ) (before : Option Id) (e : Entry) → 1 ≤ e .si
 entry-above place before e l m f z r p =
     last-one (badEntry place before e) (notAbove before (e .id)) (λ q. entry-rules place before e q .above)
     (λ q. rules-entry place before e record { least = l; most = m; fill = f; zero = z; rows = r; place = p; above = q })
+
+-- ---- the whole image
+
+first-left : (a : Option ℕ) (b : Bool) (p : ℕ) → orElse a (pick b none (some p)) ≡ none → b ≡ true
+first-left none true p e = refl
+first-left none false p e = absurd (none≢some (sym e))
+first-left (some x) b p e = absurd (none≢some (sym e))
+
+-- where 23 finds nothing, the entries' rows are all rows
+pub rows-sum : (s : List ℕ) → badContents s ≡ none → sumRows (entriesOf s) ≡ headOf s .revisions
+unfolding badContents
+rows-sum s e =
+    eqb-true (sumRows (entriesOf s)) (headOf s .revisions)
+    (first-left (firstTrue 0 (badEntries (16 + 44 * headOf s .documents) none (entriesOf s))) (eqb (sumRows (entriesOf s)) (headOf s .revisions)) (headOf s .documents) e)
+
+-- 23 to 26, one after the other
+module _ (s : List ℕ) where
+  pub body-contents : (p : ℕ) → badContents s ≡ some p → bodyFault s ≡ some (BadContents, p)
+  unfolding bodyFault firstThat
+  body-contents p e = rw e
+
+  pub body-sequence : (p : ℕ) → badContents s ≡ none → badSequence s ≡ some p → bodyFault s ≡ some (BadSequence, p)
+  unfolding bodyFault firstThat
+  body-sequence p a e = rw (a, e)
+
+  pub body-rows : (p : ℕ) → badContents s ≡ none → badSequence s ≡ none → rowsFault s ≡ some p → bodyFault s ≡ some (BadRow, p)
+  unfolding bodyFault firstThat
+  body-rows p a b e = rw (a, b, e)
+
+  pub body-links : (p : ℕ) → badContents s ≡ none → badSequence s ≡ none → rowsFault s ≡ none → linksFault s ≡ some p → bodyFault s ≡ some (BadParent, p)
+  unfolding bodyFault firstThat
+  body-links p a b c e = rw (a, b, c, e)
+
+  pub body-fine : badContents s ≡ none → badSequence s ≡ none → rowsFault s ≡ none → linksFault s ≡ none → bodyFault s ≡ none
+  unfolding bodyFault firstThat
+  body-fine a b c d = rw (a, b, c, d)
+
+  -- 20 to 22 before them
+  pub fault-short : length s < 16 → firstThat (faults s) ≡ some (TooShort, 0)
+  unfolding faults firstThat
+  fault-short h = rw (lt-ltb (length s) 16 h)
+
+  pub fault-edition : 16 ≤ length s → (headOf s .edition ≡ 1 → ⊥) → firstThat (faults s) ≡ some (BadEdition, 0)
+  unfolding faults firstThat
+  fault-edition h e = rw (le-ltb (length s) 16 h, ne-eqb (headOf s .edition) 1 e)
+
+  pub fault-head : 16 ≤ length s → headOf s .edition ≡ 1 → badHead s ≡ true → firstThat (faults s) ≡ some (BadHead, 0)
+  unfolding faults firstThat
+  fault-head h e b = rw (le-ltb (length s) 16 h, eq-eqb (headOf s .edition) 1 e, b)
+
+  pub fault-body : 16 ≤ length s → headOf s .edition ≡ 1 → badHead s ≡ false → firstThat (faults s) ≡ bodyFault s
+  unfolding faults firstThat bodyFault rowsFault linksFault
+  fault-body h e b = rw (le-ltb (length s) 16 h, eq-eqb (headOf s .edition) 1 e, b)

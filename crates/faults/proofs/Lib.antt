@@ -5,3 +5,4 @@ pub mod FirstLaws
 pub mod JudgeLaws
 pub mod RowLaws
 pub mod LinkLaws
+pub mod Outcomes

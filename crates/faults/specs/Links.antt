@@ -8,7 +8,7 @@ use lib.Dec.{eqb}
 use lib.ListN.{length, getD, replicate}
 use Rattle.rules.specs.declared.Revision.{Revision}
 use Rattle.rules.specs.Choice.{pick, maybe, any}
-use Rattle.rules.specs.Image.{Row, firstTrue, badRows, parentOfRow, isParentOf, rowSize, inEach, deal, entriesOf, rowsOf}
+use Rattle.rules.specs.Image.{Row, firstTrue, badRows, parentOfRow, isParentOf, rowSize}
 use Rattle.rules.specs.Order.{sameRev}
 use Rattle.rules.specs.Replica.{Tree}
 use Rattle.rules.specs.Room.{revisionsMost}
@@ -18,6 +18,7 @@ use Rattle.tree.specs.Table.{treeAt, placeOf}
 use Rattle.faults.specs.declared.links.Run.{Run}
 use Rattle.faults.specs.declared.links.Parent.{Parent}
 use Rattle.faults.specs.declared.links.Parent.the-variants.{Unknown, Missing, Among}
+use Rattle.faults.specs.Judged.{rowsFault}
 use Rattle.faults.specs.Places.{rowAt, rowsAt, Listed}
 
 -- row m of those from base on, and its revision's number
@@ -123,4 +124,4 @@ pub record CanFind (base n k : ℕ) (s ms : List ℕ) : Type 0 where
 -- what 23 and 25 leave
 pub record Sorted (s : List ℕ) : Type 0 where
   pub listed : Listed s
-  pub good : firstTrue 0 (inEach (badRows none) (deal (entriesOf s) (rowsOf s))) ≡ none
+  pub good : rowsFault s ≡ none

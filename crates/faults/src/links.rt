@@ -19,18 +19,19 @@ ghost use Prim.Native.Nat.{ℕ, _+_, _-_, _*_, _≤_, _<_, min};
 ghost use lib.Dec.{eqb};
 ghost use lib.ListN.{length};
 ghost use Rattle.rules.specs.Choice.{pick};
-ghost use Rattle.rules.specs.Image.{firstTrue, badLinks, inEach, deal, entriesOf, rowsOf, rowSize};
+ghost use Rattle.rules.specs.Image.{firstTrue, badLinks, rowSize};
+ghost use Rattle.faults.specs.Judged.{linksFault};
 ghost use Rattle.faults.specs.Places.{placed, rowsAt};
 ghost use Rattle.faults.specs.Links.{NumberOn, rowOn, runOn, parentOn, CanLink, bit, Marked, CanMark, CanJudge, HasTree, CanFind, Sorted};
 
 // Rows lo to hi, among which a parent is sought.
-pub struct Run {
-    pub lo: usize,
-    pub hi: usize,
+struct Run {
+    lo: usize,
+    hi: usize,
 }
 
 // A row's parent: none is known, it isn't in the document, or it is a row there.
-pub enum Parent {
+enum Parent {
     Unknown,
     Missing,
     Among(usize),
@@ -159,7 +160,7 @@ fn links_in(s: &[u8], base: usize, n: usize, k: usize) -> Place
 
 pub(crate) fn links_fault(s: &[u8]) -> Place
     requires { ⌜ Sorted (now s) ⌝ }
-    ensures { λ r. ⌜ placed r ≡ firstTrue 0 (inEach badLinks (deal (entriesOf (now (s .entry))) (rowsOf (now (s .entry))))) ⌝ }
+    ensures { λ r. ⌜ placed r ≡ linksFault (now (s .entry)) ⌝ }
 {
     let d = documents(s);
     let mut k = 0;

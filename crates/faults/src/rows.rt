@@ -18,7 +18,8 @@ ghost use mathlib.Core.Option.{none, some};
 ghost use Prim.Native.Nat.{ℕ, _+_, _-_, _*_, _≤_, _<_};
 ghost use lib.Dec.{eqb};
 ghost use lib.ListN.{length};
-ghost use Rattle.rules.specs.Image.{firstTrue, badRow, badRows, rowNotAbove, inEach, deal, entriesOf, rowsOf, allZero, rowSize};
+ghost use Rattle.rules.specs.Image.{firstTrue, badRow, badRows, rowNotAbove, allZero, rowSize};
+ghost use Rattle.faults.specs.Judged.{rowsFault};
 ghost use Rattle.faults.specs.Places.{placed, Listed, rowAt, rowsAt, revBefore, HasRows};
 
 // A parent at number 1, or the hash of a parent that is not known.
@@ -119,7 +120,7 @@ fn rows_in(s: &[u8], base: usize, n: usize, k: usize) -> Place
 
 pub(crate) fn rows_fault(s: &[u8]) -> Place
     requires { ⌜ Listed (now s) ⌝ }
-    ensures { λ r. ⌜ placed r ≡ firstTrue 0 (inEach (badRows none) (deal (entriesOf (now (s .entry))) (rowsOf (now (s .entry))))) ⌝ }
+    ensures { λ r. ⌜ placed r ≡ rowsFault (now (s .entry)) ⌝ }
 {
     let d = documents(s);
     let mut k = 0;

@@ -5,7 +5,8 @@ use Prim.Native.Nat.{ℕ, _+_, _-_, _≤_}
 use native.Mathlib.Omega.{arith}
 use borrow.Author.Needs.{needs}
 use Rattle.rules.specs.Choice.{orElse}
-use Rattle.rules.specs.Image.{headOf, entriesOf, rowsOf, sumRows, deal, inEach, firstTrue, badRows, badLinks}
+use Rattle.rules.specs.Image.{headOf, entriesOf, sumRows, badRows, badLinks}
+use Rattle.faults.specs.Judged.{linksFault, rowsFault}
 use Rattle.faults.specs.Places.{placed}
 use Rattle.faults.proofs.FirstLaws.{entriesFrom, entries-all}
 use Rattle.faults.proofs.RowLaws.{eachFrom, each-all, each-next, each-end, sum-next, size-rows}
@@ -14,7 +15,7 @@ use Rattle.faults.proofs.links.links_fault.Statement.{statement}
 use Rattle.faults.proofs.links.links_fault.Tie as tie
 
 abbrev Inv-loop : tie.InvT-loop
-Inv-loop s d k₀ i₀ k i = (i ≤ d) × (k + sumRows (entriesFrom i d s) ≡ headOf s .revisions) × (eachFrom (badRows none) (size-rows none) s d (headOf s .revisions) i k ≡ none) × (firstTrue 0 (inEach badLinks (deal (entriesOf s) (rowsOf s))) ≡ eachFrom badLinks size-links s d (headOf s .revisions) i k)
+Inv-loop s d k₀ i₀ k i = (i ≤ d) × (k + sumRows (entriesFrom i d s) ≡ headOf s .revisions) × (eachFrom (badRows none) (size-rows none) s d (headOf s .revisions) i k ≡ none) × (linksFault s ≡ eachFrom badLinks size-links s d (headOf s .revisions) i k)
 
 abbrev μ-loop : tie.MeasureT-loop
 μ-loop s d k₀ i₀ k i = d - i
@@ -23,6 +24,7 @@ documents-requires : tie.Need-documents-requires Inv-loop μ-loop
 documents-requires c κs = (c .before) .pre .listed .headed
 
 loop-holds : tie.Need-loop-holds Inv-loop μ-loop
+unfolding linksFault rowsFault
 loop-holds c = let s = (c .before .before) .args .s .now in let e = sym ((c .documents) .ensures) in
     let z = (c .before .before) .pre .listed .sum in
     let q : sumRows (entriesOf s) ≡ sumRows (entriesFrom 0 ((c .documents) .result) s) = ap sumRows (entries-all s ∙ ap (λ (n : ℕ). entriesFrom 0 n s) e) in (
