@@ -32,7 +32,7 @@ is-less Greater e = absurd (true≢false e)
 -- ---- the rows by themselves and in their order
 
 -- above the one before, where there is one
-abbrev Above : Option Revision → Tree → Type 0
+abbrev pub Above : Option Revision → Tree → Type 0
 Above none t = Unit {0}
 Above (some u) t = Below orderRev u t
 
@@ -48,12 +48,12 @@ rows-forth before (x ∷ t) r s b = (
   rows-forth (some (x .0)) t (r .1) (s .1) (s .0),
 )
 
-record RowsHold (before : Option Revision) (ws : List Row) : Type 0 where
-  each : Each (λ w. badRow w ≡ false) ws
-  ascending : Ascending orderRev (map nodeIn ws)
-  above : Above before (map nodeIn ws)
+pub record RowsHold (before : Option Revision) (ws : List Row) : Type 0 where
+  pub each : Each (λ w. badRow w ≡ false) ws
+  pub ascending : Ascending orderRev (map nodeIn ws)
+  pub above : Above before (map nodeIn ws)
 
-rows-back : (before : Option Revision) (ws : List Row) → AllFalse (badRows before ws) → RowsHold before ws
+pub rows-back : (before : Option Revision) (ws : List Row) → AllFalse (badRows before ws) → RowsHold before ws
 unfolding badRows nodeIn
 rows-back before [] h = record { each = tt; ascending = tt; above = nothing before }
   where

@@ -1,0 +1,132 @@
+-- What makes a head or an entry bad, as the code asks it: one test after the other. Assumes nothing.
+use mathlib.Core.Path.{_≡_, refl, sym, ap, _∙_}
+use mathlib.Core.Bool.{Bool, true, false, not}
+use mathlib.Core.List.{List}
+use mathlib.Core.Option.{Option, none, some}
+use Prim.Native.Nat.{ℕ, _+_, _*_, _≤_, _<_}
+use lib.Dec.{eqb, ltb}
+use lib.ListN.{length}
+use borrow.Author.Tests.{ltb-false, eqb-true, not-false, lt-ltb, le-ltb, eq-eqb, ne-eqb}
+use Rattle.rules.specs.Image.{Entry, headOf, badHead, badEntry, notAbove, allZero, totalLength, entriesOf, sumRows, firstTrue, badEntries, badContents, badSequence, faults}
+use Rattle.rules.specs.declared.Fault.the-variants.{TooShort, BadEdition, BadHead, BadContents, BadSequence, BadRow, BadParent}
+use Rattle.rules.specs.Choice.{pick, orElse, firstThat}
+use Rattle.rules.specs.Replica.{Id}
+use Rattle.rules.proofs.MapLaws.{none≢some}
+use Rattle.images.proofs.Tests.{none5, all5}
+use Rattle.images.proofs.Entries.{entry-rules, rules-entry}
+use Rattle.faults.specs.Judged.{rowsFault, linksFault, bodyFault}
+use Rattle.faults.specs.Places.{Headed}
+use Rattle.faults.proofs.TestLaws.{last-one}
+
+-- ---- 22
+
+-- "zero field not zero, d over 32, r over 512, total not by the formula or not the given length"
+pub record HeadRules (s : List ℕ) : Type 0 where
+  pub zero : headOf s .zero ≡ 0
+  pub documents : headOf s .documents ≤ 32
+  pub revisions : headOf s .revisions ≤ 512
+  pub total : headOf s .total ≡ totalLength (headOf s .documents) (headOf s .revisions)
+  pub given : headOf s .total ≡ length s
+
+module _ (s : List ℕ) where
+  pub head-rules : badHead s ≡ false → HeadRules s
+  unfolding badHead
+  head-rules e =
+      let h = headOf s in
+      let n =
+      none5 (not (eqb (h .zero) 0)) (ltb 32 (h .documents)) (ltb 512 (h .revisions))
+      (not (eqb (h .total) (totalLength (h .documents) (h .revisions)))) (not (eqb (h .total) (length s))) e in
+      record {
+        zero = eqb-true (h .zero) 0 (not-false (eqb (h .zero) 0) (n .0));
+        documents = ltb-false 32 (h .documents) (n .1);
+        revisions = ltb-false 512 (h .revisions) (n .2);
+        total = eqb-true (h .total) (totalLength (h .documents) (h .revisions)) (not-false (eqb (h .total) (totalLength (h .documents) (h .revisions))) (n .3));
+        given = eqb-true (h .total) (length s) (not-false (eqb (h .total) (length s)) (n .4));
+      }
+
+  pub rules-head : HeadRules s → badHead s ≡ false
+  unfolding badHead
+  rules-head r =
+      let h = headOf s in
+      all5 (not (eqb (h .zero) 0)) (ltb 32 (h .documents)) (ltb 512 (h .revisions))
+      (not (eqb (h .total) (totalLength (h .documents) (h .revisions)))) (not (eqb (h .total) (length s))) (
+        ap not (eq-eqb (h .zero) 0 (r .zero)),
+        le-ltb 32 (h .documents) (r .documents),
+        le-ltb 512 (h .revisions) (r .revisions),
+        ap not (eq-eqb (h .total) (totalLength (h .documents) (h .revisions)) (r .total)),
+        ap not (eq-eqb (h .total) (length s) (r .given)),
+      )
+
+  -- what is left where 22 finds nothing
+  pub headed : badHead s ≡ false → Headed s
+  headed e = let r = head-rules e in record { documents = r .documents; revisions = r .revisions; size = sym (r .given) ∙ r .total }
+
+  -- the length is what is left to ask
+  pub head-given : headOf s .zero ≡ 0 → headOf s .documents ≤ 32 → headOf s .revisions ≤ 512
+      → headOf s .total ≡ totalLength (headOf s .documents) (headOf s .revisions) → not (eqb (headOf s .total) (length s)) ≡ badHead s
+  head-given z d r t =
+      sym (last-one (badHead s) (not (eqb (headOf s .total) (length s)))
+      (λ e. ap not (eq-eqb (headOf s .total) (length s) (head-rules e .given)))
+      (λ e. rules-head record { zero = z; documents = d; revisions = r; total = t; given = eqb-true (headOf s .total) (length s) (not-false (eqb (headOf s .total) (length s)) e) }))
+
+-- ---- 23
+
+-- the id's order is what is left to ask
+pub entry-above : (place : ℕ) (before : Option Id) (e : Entry) → 1 ≤ e .size → e .size ≤ 32 → allZero (e .fill) ≡ true → e .zero ≡ 0
+    → 1 ≤ e .rows → e .place ≡ place → badEntry place before e ≡ notAbove before (e .id)
+entry-above place before e l m f z r p =
+    last-one (badEntry place before e) (notAbove before (e .id)) (λ q. entry-rules place before e q .above)
+    (λ q. rules-entry place before e record { least = l; most = m; fill = f; zero = z; rows = r; place = p; above = q })
+
+-- ---- the whole image
+
+first-left : (a : Option ℕ) (b : Bool) (p : ℕ) → orElse a (pick b none (some p)) ≡ none → b ≡ true
+first-left none true p e = refl
+first-left none false p e = absurd (none≢some (sym e))
+first-left (some x) b p e = absurd (none≢some (sym e))
+
+-- where 23 finds nothing, the entries' rows are all rows
+pub rows-sum : (s : List ℕ) → badContents s ≡ none → sumRows (entriesOf s) ≡ headOf s .revisions
+unfolding badContents
+rows-sum s e =
+    eqb-true (sumRows (entriesOf s)) (headOf s .revisions)
+    (first-left (firstTrue 0 (badEntries (16 + 44 * headOf s .documents) none (entriesOf s))) (eqb (sumRows (entriesOf s)) (headOf s .revisions)) (headOf s .documents) e)
+
+-- 23 to 26, one after the other
+module _ (s : List ℕ) where
+  pub body-contents : (p : ℕ) → badContents s ≡ some p → bodyFault s ≡ some (BadContents, p)
+  unfolding bodyFault firstThat
+  body-contents p e = rw e
+
+  pub body-sequence : (p : ℕ) → badContents s ≡ none → badSequence s ≡ some p → bodyFault s ≡ some (BadSequence, p)
+  unfolding bodyFault firstThat
+  body-sequence p a e = rw (a, e)
+
+  pub body-rows : (p : ℕ) → badContents s ≡ none → badSequence s ≡ none → rowsFault s ≡ some p → bodyFault s ≡ some (BadRow, p)
+  unfolding bodyFault firstThat
+  body-rows p a b e = rw (a, b, e)
+
+  pub body-links : (p : ℕ) → badContents s ≡ none → badSequence s ≡ none → rowsFault s ≡ none → linksFault s ≡ some p → bodyFault s ≡ some (BadParent, p)
+  unfolding bodyFault firstThat
+  body-links p a b c e = rw (a, b, c, e)
+
+  pub body-fine : badContents s ≡ none → badSequence s ≡ none → rowsFault s ≡ none → linksFault s ≡ none → bodyFault s ≡ none
+  unfolding bodyFault firstThat
+  body-fine a b c d = rw (a, b, c, d)
+
+  -- 20 to 22 before them
+  pub fault-short : length s < 16 → firstThat (faults s) ≡ some (TooShort, 0)
+  unfolding faults firstThat
+  fault-short h = rw (lt-ltb (length s) 16 h)
+
+  pub fault-edition : 16 ≤ length s → (headOf s .edition ≡ 1 → ⊥) → firstThat (faults s) ≡ some (BadEdition, 0)
+  unfolding faults firstThat
+  fault-edition h e = rw (le-ltb (length s) 16 h, ne-eqb (headOf s .edition) 1 e)
+
+  pub fault-head : 16 ≤ length s → headOf s .edition ≡ 1 → badHead s ≡ true → firstThat (faults s) ≡ some (BadHead, 0)
+  unfolding faults firstThat
+  fault-head h e b = rw (le-ltb (length s) 16 h, eq-eqb (headOf s .edition) 1 e, b)
+
+  pub fault-body : 16 ≤ length s → headOf s .edition ≡ 1 → badHead s ≡ false → firstThat (faults s) ≡ bodyFault s
+  unfolding faults firstThat bodyFault rowsFault linksFault
+  fault-body h e b = rw (le-ltb (length s) 16 h, eq-eqb (headOf s .edition) 1 e, b)

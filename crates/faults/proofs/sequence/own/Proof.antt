@@ -1,0 +1,24 @@
+-- `sequence::own` meets its contract. Assumes nothing.
+use mathlib.Core.Path.{sym, _∙_}
+use borrow.Author.Needs.{needs}
+use Rattle.faults.proofs.FieldLaws.{entry-seq}
+use Rattle.faults.proofs.sequence.own.Statement.{statement}
+use Rattle.faults.proofs.sequence.own.Tie as tie
+
+mul-get4 : tie.Need-mul-get4
+mul-get4 c = search needs
+
+add-get4 : tie.Need-add-get4
+add-get4 c = search needs
+
+add-get4-2 : tie.Need-add-get4-2
+add-get4-2 c = search needs
+
+get4-requires : tie.Need-get4-requires
+get4-requires c κs = search needs
+
+returns : tie.Need-returns
+returns c = let a = (c .before .before) .args in record { is = ((c .get4) .ensures .is) ∙ sym (entry-seq (a .i) (a .s .now)); small = (c .get4) .ensures .small }
+
+pub own-spec : {M : Type 1} → statement M
+own-spec = tie.close (tie.spec mul-get4 add-get4 add-get4-2 get4-requires returns)

@@ -1,0 +1,82 @@
+-- `sequence::sequence_fault` meets its contract. Assumes nothing.
+use mathlib.Core.Path.{_≡_, sym, ap, _∙_}
+use mathlib.Core.Option.{none, some}
+use Prim.Native.Nat.{ℕ, _+_, _-_, _≤_, max}
+use native.Mathlib.Omega.{arith}
+use borrow.Author.Tests.{eq-eqb, ne-eqb}
+use borrow.Author.Needs.{needs}
+use Rattle.rules.specs.Choice.{pick}
+use Rattle.rules.specs.Image.{headOf, badSequence}
+use Rattle.faults.proofs.FirstLaws.{sequenceFrom, sequence-all, sequence-bad, sequence-next, sequence-end}
+use Rattle.faults.proofs.sequence.sequence_fault.Statement.{statement}
+use Rattle.faults.proofs.sequence.sequence_fault.Tie as tie
+
+abbrev Inv-loop : tie.InvT-loop
+Inv-loop s d most₀ i₀ most i = (i ≤ d) × (badSequence s ≡ sequenceFrom s d (headOf s .seq) i most)
+
+abbrev μ-loop : tie.MeasureT-loop
+μ-loop s d most₀ i₀ most i = d - i
+
+documents-requires : tie.Need-documents-requires Inv-loop μ-loop
+documents-requires c κs = search needs
+
+loop-holds : tie.Need-loop-holds Inv-loop μ-loop
+loop-holds c = let s = (c .before .before) .args .s .now in
+    (omega arith, sequence-all s ∙ ap (λ (n : ℕ). sequenceFrom s n (headOf s .seq) 0 0) (sym ((c .documents) .ensures)))
+
+own-bad-requires : tie.Need-own-bad-requires Inv-loop μ-loop
+own-bad-requires c κs = search needs
+
+returns : tie.Need-returns Inv-loop μ-loop
+returns c = let s = (c .before .before .before .before .before .before) .args .s .now in let l = (c .before .before .before .loop) in
+    sym (l .inv .1 ∙ sequence-bad s ((c .before .before .before .before .documents) .result) (headOf s .seq) (l .i) (l .most) (omega arith) (sym ((c .before .own-bad) .ensures) ∙ (c .if1) .taken))
+
+own-requires : tie.Need-own-requires Inv-loop μ-loop
+own-requires c κs = search needs
+
+larger-requires : tie.Need-larger-requires Inv-loop μ-loop
+larger-requires c κs = search needs
+
+add-i : tie.Need-add-i Inv-loop μ-loop
+add-i c = search needs
+
+loop-less : tie.Need-loop-less Inv-loop μ-loop
+loop-less c = search needs
+
+loop-again : tie.Need-loop-again Inv-loop μ-loop
+loop-again c = let s = (c .before .before .before .before .before .before .before .before) .args .s .now in let l = (c .before .before .before .before .before .loop) in
+    let d = (c .before .before .before .before .before .before .documents) .result in
+    let next = sequence-next s d (headOf s .seq) (l .i) (l .most) (omega arith) (sym ((c .before .before .before .own-bad) .ensures) ∙ (c .before .before .if1) .left) in
+    (omega arith, l .inv .1 ∙ (next ∙ ap (λ (k : ℕ). sequenceFrom s d (headOf s .seq) (l .i + 1) k) (ap (λ (k : ℕ). max (l .most) k) (sym ((c .before .own) .ensures .is)) ∙ sym ((c .larger) .ensures))))
+
+update-sequence-requires : tie.Need-update-sequence-requires Inv-loop μ-loop
+update-sequence-requires c κs = search needs
+
+returns-2 : tie.Need-returns-2 Inv-loop μ-loop
+returns-2 c = let s = (c .before .before .before .before .before .before .before) .args .s .now in let l = (c .before .before .before .before .loop) in
+    sym (l .inv .1 ∙ (sequence-end s ((c .before .before .before .before .before .documents) .result) (headOf s .seq) (l .i) (l .most) (omega arith)
+    ∙ ap (λ b. pick b none (some ((c .before .before .before .before .before .documents) .result))) (eq-eqb (headOf s .seq) (l .most) (sym ((c .if2) .taken ∙ (c .before .before .update-sequence) .ensures)))))
+
+returns-3 : tie.Need-returns-3 Inv-loop μ-loop
+returns-3 c = let s = (c .before .before .before .before .before .before .before) .args .s .now in let l = (c .before .before .before .before .loop) in
+    sym (l .inv .1 ∙ (sequence-end s ((c .before .before .before .before .before .documents) .result) (headOf s .seq) (l .i) (l .most) (omega arith)
+    ∙ ap (λ b. pick b none (some ((c .before .before .before .before .before .documents) .result))) (ne-eqb (headOf s .seq) (l .most) (λ e. (c .if2) .left (sym ((c .before .before .update-sequence) .ensures ∙ e))))))
+
+pub sequence-fault-spec : {M : Type 1} → statement M
+sequence-fault-spec =
+    tie.close
+    (tie.spec
+    Inv-loop
+    μ-loop
+    documents-requires
+    loop-holds
+    own-bad-requires
+    returns
+    own-requires
+    larger-requires
+    add-i
+    loop-less
+    loop-again
+    update-sequence-requires
+    returns-2
+    returns-3)

@@ -1,0 +1,4 @@
+-- What the promises of this crate cite.
+pub mod Places
+pub mod Links
+pub mod Judged

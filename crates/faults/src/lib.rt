@@ -1,0 +1,75 @@
+// Faults: what is wrong with the bytes of an image, and where: the refusals 20 to 26.
+// It takes every input of every length and writes nothing. It uses the crates rules and octets, and the
+// laws of the crate images. Rows are searched by the crate tree.
+use crate::contents::contents_fault;
+use crate::head::head_bad;
+use crate::links::links_fault;
+use crate::rows::rows_fault;
+use crate::sequence::sequence_fault;
+use octets::number::get2;
+use rules::Fault;
+ghost use mathlib.Core.Path.{_≡_};
+ghost use Rattle.rules.specs.Choice.{firstThat};
+ghost use Rattle.rules.specs.Image.{faults};
+ghost use Rattle.faults.specs.Places.{Headed};
+ghost use Rattle.faults.specs.Judged.{judged, bodyFault};
+
+mod contents;
+mod head;
+mod links;
+mod rows;
+mod sequence;
+
+// Where the first fault of a kind is.
+enum Place {
+    Nowhere,
+    At(usize),
+}
+
+const HEAD: usize = 16;
+
+const ENTRY: usize = 44;
+
+const ROW: usize = 48;
+
+// What is wrong with an image, and where.
+pub enum Judged {
+    Fine,
+    Bad(Fault, usize),
+}
+
+// 23 to 26, in this order.
+fn body_fault(s: &[u8]) -> Judged
+    requires { ⌜ Headed (now s) ⌝ }
+    ensures { λ r. ⌜ judged r ≡ bodyFault (now (s .entry)) ⌝ }
+{
+    if let Place::At(p) = contents_fault(s) {
+        return Judged::Bad(Fault::BadContents, p);
+    }
+    if let Place::At(p) = sequence_fault(s) {
+        return Judged::Bad(Fault::BadSequence, p);
+    }
+    if let Place::At(p) = rows_fault(s) {
+        return Judged::Bad(Fault::BadRow, p);
+    }
+    if let Place::At(p) = links_fault(s) {
+        return Judged::Bad(Fault::BadParent, p);
+    }
+    Judged::Fine
+}
+
+// The first fault of an image, of whatever bytes it is.
+pub fn fault(s: &[u8]) -> Judged
+    ensures { λ r. ⌜ judged r ≡ firstThat (faults (now (s .entry))) ⌝ }
+{
+    if s.len() < HEAD {
+        return Judged::Bad(Fault::TooShort, 0);
+    }
+    if get2(s, 0) != 1 {
+        return Judged::Bad(Fault::BadEdition, 0);
+    }
+    if head_bad(s) {
+        return Judged::Bad(Fault::BadHead, 0);
+    }
+    body_fault(s)
+}
