@@ -26,7 +26,7 @@ one = on lot 3 (0x70 ∷ 0x61 ∷ []) (Live 1) ∷ []
 abbrev pub apart : List Write
 apart = on lot 3 (0x70 ∷ []) (Live 1) ∷ on lot 2 (0x61 ∷ []) (Live 2) ∷ []
 
-pair-ready : Ready (one ++ apart)
+pub pair-ready : Ready (one ++ apart)
 unfolding unready malformed notBytes incompatible clashes clash idsOf tagged revisionsOf badId badPath lowNumber firstThat any hashes pieces join gives along orderBytes orderRev orderN sameRev
 pair-ready = ready (one ++ apart) refl
 
@@ -58,7 +58,7 @@ field =
     ∷ on lot 2 (0x4c ∷ 0x20 ∷ []) (Live 9)
     ∷ []
 
-offices-ready : Ready (office ++ field)
+pub offices-ready : Ready (office ++ field)
 unfolding unready malformed notBytes incompatible clashes clash idsOf tagged revisionsOf badId badPath lowNumber firstThat any hashes pieces join gives along orderBytes orderRev orderN sameRev
 offices-ready = ready (office ++ field) refl
 

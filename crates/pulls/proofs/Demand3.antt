@@ -1,0 +1,122 @@
+-- Demand 3, of the compiled write and pull: what their promises say of any bytes that hold replicas. Assumes nothing.
+use mathlib.Core.Path.{_≡_, refl, sym, ap, _∙_}
+use mathlib.Core.List.{List, [], _∷_, _++_}
+use mathlib.Core.Logic.{_↔_}
+use Prim.Native.Nat.{ℕ}
+use Rattle.rules.specs.declared.Counts.{Counts}
+use Rattle.rules.specs.declared.Outcome.the-variants.{Changed, Unchanged}
+use Rattle.rules.specs.declared.Seq.{Seq}
+use Rattle.rules.specs.declared.Written.{Written}
+use Rattle.rules.specs.declared.Written.the-variants.{Accepted, Refused}
+use Rattle.rules.specs.Pull.{offers, count, noCounts, take-in, pull}
+use Rattle.rules.specs.Read.{winner, documentsAfter}
+use Rattle.rules.specs.Replica.{Id, Document, Replica, fresh, documentOf, treeOf}
+use Rattle.rules.specs.Union.{In, given, held, both, IsUnion, SameButSeq, WellFormed, Compatible, Fits, Within, writeAll, IsAccepted, AllAccepted, SeqSuffices, allFrom}
+use Rattle.rules.specs.Write.{Write, write}
+use Rattle.union.specs.Said.{there, Agreed, total, leafCount}
+use Rattle.union.proofs.Demand3 as union
+use Rattle.store.specs.Storage.{replicaOf, stored, IsStored}
+use Rattle.store.proofs.StoredLaws.{stored-back, fresh-fits}
+use Rattle.pulls.proofs.Calls.{PullCall, WriteCalls, NoneRefused, pulled, Ran, ran}
+
+-- ---- writes in any order, from fresh
+
+fresh-is : (s : List ℕ) → s ≡ stored fresh → replicaOf s ≡ fresh
+fresh-is s e = ap replicaOf e ∙ stored-back fresh fresh-fits
+
+module _ (ws : List Write) (s left : List ℕ) (e : s ≡ stored fresh) (calls : WriteCalls ws s left) where
+  from-fresh : Ran ws s left calls
+  from-fresh =
+      ran ws s left
+      (record { same = e ∙ ap stored (sym (fresh-is s e)); replica = rw (fresh-is s e) union.fresh-is-replica }) calls
+
+  pub left-is : replicaOf left ≡ writeAll ws fresh
+  left-is = from-fresh .replica ∙ ap (writeAll ws) (fresh-is s e)
+
+  -- none is refused, and the bytes left hold exactly the union of what was given
+  pub union-of-writes : ((w : Write) → In w ws → WellFormed w) → Compatible (given ws) → Fits (given ws) → NoneRefused ws s left calls × IsUnion (replicaOf left) (given ws)
+  union-of-writes k c f =
+      let u = union.union-of-writes ws k c f in (
+        from-fresh .accepted (rw (fresh-is s e) (u .0)),
+        rw left-is (u .1),
+      )
+
+-- the same writes in any order and with any repeats: "they differ in sequences only"
+pub any-order : (ws vs : List Write) → ((w : Write) → In w ws ↔ In w vs) → ((w : Write) → In w ws → WellFormed w) → Compatible (given ws) → Fits (given ws)
+    → (s a b : List ℕ) → s ≡ stored fresh → WriteCalls ws s a → WriteCalls vs s b
+    → SameButSeq (replicaOf a) (replicaOf b) × ((i : Id) → winner (treeOf (replicaOf a) i) ≡ winner (treeOf (replicaOf b) i))
+any-order ws vs same k c f s a b e calls others =
+    rw (left-is ws s a e calls, left-is vs s b e others) (union.any-order ws vs same k c f)
+
+-- ---- pulls both ways
+
+-- a pulled into b left b′, and that pulled back into a left a′: both hold what a and b held
+pub record BothHold (a b a′ b′ : List ℕ) (c d : Counts) : Type 1 where
+  pub union-there : IsUnion (replicaOf b′) (both (held (replicaOf a)) (held (replicaOf b)))
+  pub union-back : IsUnion (replicaOf a′) (both (held (replicaOf a)) (held (replicaOf b)))
+  -- "they differ in sequences only"
+  pub same : SameButSeq (replicaOf b′) (replicaOf a′)
+  pub winners : (i : Id) → winner (treeOf (replicaOf b′) i) ≡ winner (treeOf (replicaOf a′) i)
+  pub none-refused : (c .refused ≡ 0) × (d .refused ≡ 0)
+
+count-accepted : (o : Written) (c : Counts) → IsAccepted o → count o c .refused ≡ c .refused
+unfolding count
+count-accepted (Accepted Changed) c h = refl
+count-accepted (Accepted Unchanged) c h = refl
+count-accepted (Refused n) c h = absurd h
+
+take-in-accepted : (ws : List Write) (c : Counts) (r : Replica) → AllAccepted ws r → take-in ws (c, r) .0 .refused ≡ c .refused
+unfolding take-in
+take-in-accepted [] c r h = refl
+take-in-accepted (w ∷ ws) c r h = take-in-accepted ws (count (write r w .0) c) (write r w .1) (h .1) ∙ count-accepted (write r w .0) c (h .0)
+
+pull-accepted : (q : Seq) (s t : Replica) → AllAccepted (offers q s) t → pull q s t .0 .refused ≡ 0
+unfolding pull
+pull-accepted q s t h = take-in-accepted (offers q s) noCounts t h
+
+module _ (a b a′ b′ : List ℕ) (c d : Counts) (forth : PullCall a allFrom b c b′) (back : PullCall b′ allFrom a d a′) where
+  there-is : replicaOf b′ ≡ there (replicaOf a) (replicaOf b)
+  there-is = pulled a allFrom b c b′ forth .means
+
+  back-is : replicaOf a′ ≡ pull allFrom (there (replicaOf a) (replicaOf b)) (replicaOf a) .1
+  back-is = pulled b′ allFrom a d a′ back .means ∙ ap (λ (r : Replica). pull allFrom r (replicaOf a) .1) there-is
+
+  agreed : Agreed (replicaOf a) (replicaOf b) → BothHold a b a′ b′ c d
+  agreed g = record {
+    union-there = rw there-is (g .union-there);
+    union-back = rw back-is (g .union-back);
+    same = rw (there-is, back-is) (g .same);
+    winners = rw (there-is, back-is) (g .winners);
+    none-refused = (
+      ap (λ (z : Counts). z .refused) (pulled a allFrom b c b′ forth .counts) ∙ pull-accepted allFrom (replicaOf a) (replicaOf b) (g .accepted-there),
+      ap (λ (z : Counts). z .refused) (pulled b′ allFrom a d a′ back .counts)
+          ∙ pull-accepted allFrom (replicaOf b′) (replicaOf a) (rw there-is (g .accepted-back)),
+    );
+  }
+
+  -- replicas that "hold only things those writes give", where "neither runs out of sequence"
+  pub two-way : (ws : List Write) → IsStored a → IsStored b → Compatible (given ws) → Fits (given ws) → Within (held (replicaOf a)) (given ws) → Within (held (replicaOf b)) (given ws)
+      → SeqSuffices (offers allFrom (replicaOf a)) (replicaOf b) → SeqSuffices (offers allFrom (replicaOf b′)) (replicaOf a) → BothHold a b a′ b′ c d
+  two-way ws ka kb k f wa wb p q =
+      agreed (union.two-way ws k f (replicaOf a) (replicaOf b) (ka .replica) (kb .replica) wa wb p (rw there-is at q))
+
+-- where writes made both from fresh, no sequence is asked for
+pub two-way-made : (us vs : List Write) → ((w : Write) → In w (us ++ vs) → WellFormed w) → Compatible (given (us ++ vs)) → Fits (given (us ++ vs))
+    → (s a b a′ b′ : List ℕ) (c d : Counts) → s ≡ stored fresh → WriteCalls us s a → WriteCalls vs s b → PullCall a allFrom b c b′ → PullCall b′ allFrom a d a′
+    → BothHold a b a′ b′ c d
+two-way-made us vs k m f s a b a′ b′ c d e into-a into-b forth back =
+    agreed a b a′ b′ c d forth back (rw (left-is us s a e into-a, left-is vs s b e into-b) (union.two-way-made us vs k m f))
+
+-- ---- one pull
+
+-- "They add up to the leaves of the source documents after that sequence."
+pub counts-add-up : (s : List ℕ) (q : Seq) (t : List ℕ) (c : Counts) (left : List ℕ) → PullCall s q t c left
+    → total c ≡ leafCount (documentsAfter q (replicaOf s .documents))
+counts-add-up s q t c left call =
+    ap (λ (z : Counts). total z) (pulled s q t c left call .counts) ∙ union.counts-add-up q (replicaOf s) (replicaOf t)
+
+-- documents of the target that are not among the offered stay as they were
+pub pull-frame : (s : List ℕ) (q : Seq) (t : List ℕ) (c : Counts) (left : List ℕ) → PullCall s q t c left
+    → (j : Id) → ((d : Id × Document) → In d (documentsAfter q (replicaOf s .documents)) → j ≡ d .0 → ⊥)
+    → documentOf (replicaOf left) j ≡ documentOf (replicaOf t) j
+pull-frame s q t c left call j other = rw (pulled s q t c left call .means) (union.pull-frame q (replicaOf s) (replicaOf t) j other)

@@ -1,0 +1,64 @@
+-- What a pull and its steps ask for and promise.
+use mathlib.Core.Path.{_≡_}
+use mathlib.Core.List.{List}
+use Prim.Native.Nat.{ℕ, _+_, _*_, _<_, _≤_}
+use lib.ListN.{length}
+use Rattle.rules.specs.declared.Content.{Content}
+use Rattle.rules.specs.declared.Counts.{Counts}
+use Rattle.rules.specs.declared.Revision.{Revision}
+use Rattle.rules.specs.declared.Seq.{Seq}
+use Rattle.rules.specs.Bytes.{join}
+use Rattle.rules.specs.Pull.{take-in, pull}
+use Rattle.rules.specs.Read.{leaves, pathOf}
+use Rattle.rules.specs.Replica.{Id, Tree}
+use Rattle.rules.specs.Room.{revisionsMost, hashesMost, hashSize}
+use Rattle.rules.specs.Write.{Write}
+use Rattle.union.specs.Said.{total}
+use Rattle.tree.specs.Table.{treeAt, Searchable}
+use Rattle.store.specs.declared.read.Body.{Body}
+use Rattle.store.specs.Storage.{replicaOf, stored, IsStored}
+use Rattle.store.specs.Documents.{documentsOf, documentAt}
+
+-- ---- the pull
+
+pub record CanPull (s t : List ℕ) : Type 0 where
+  pub source : IsStored s
+  pub target : IsStored t
+
+-- what pulling s after q into t counts, and what is left of t, to its last byte
+pub record Pulled (q : Seq) (s t : List ℕ) (c : Counts) (left : List ℕ) : Type 0 where
+  pub counts : c ≡ pull q (replicaOf s) (replicaOf t) .0
+  pub bytes : left ≡ stored (pull q (replicaOf s) (replicaOf t) .1)
+  pub means : replicaOf left ≡ pull q (replicaOf s) (replicaOf t) .1
+  pub is-stored : IsStored left
+
+-- ---- its steps
+
+-- the longest path
+abbrev pub pathRoom : ℕ
+pathRoom = hashesMost * hashSize
+
+-- the offers ws are made to t one by one, and the scratch place p stays as long as it was
+pub record Offered (ws : List Write) (c : Counts) (t p : List ℕ) (after : Counts) (left p′ : List ℕ) : Type 0 where
+  pub is : take-in ws (c, replicaOf t) ≡ (after, replicaOf left)
+  pub is-stored : IsStored left
+  pub room : length p′ ≡ length p
+
+-- a revision with its whole path
+abbrev pub offerOf : Id → Tree → Revision → Content → Write
+offerOf i t v c = record { id = i; number = v .number; path = join (pathOf t v); content = c }
+
+-- one leaf: there is room for its path, and the counts can rise
+pub record CanOffer (s : List ℕ) (b : Body) (v : Revision) (c : Counts) (t p : List ℕ) : Type 0 where
+  pub rows : Searchable (b .base) (b .rows) s
+  pub room : length (pathOf (treeAt (b .base) (b .rows) s) v) * hashSize ≤ length p
+  pub few : total c < revisionsMost
+  pub target : IsStored t
+
+-- all leaves of document d
+pub record CanOfferAll (s : List ℕ) (d : ℕ) (c : Counts) (t p : List ℕ) : Type 0 where
+  pub source : IsStored s
+  pub within : d < length (documentsOf s)
+  pub room : pathRoom ≤ length p
+  pub few : total c + length (leaves (documentAt (documentsOf s) d .1 .tree)) ≤ revisionsMost
+  pub target : IsStored t

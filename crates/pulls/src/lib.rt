@@ -1,0 +1,136 @@
+// Pulls: one replica read into another, both in buffers that the caller lends.
+// Every leaf of the source's documents after a sequence is offered to the target with its whole known
+// path, and what became of each offer is counted. It uses the crates rules, octets, union, tree,
+// store, reads and writes.
+use reads::replica::Next;
+use reads::replica::next_after;
+use rules::Content;
+use rules::Counts;
+use rules::Outcome;
+use rules::PATH_HASHES;
+use rules::Revision;
+use rules::Seq;
+use rules::Written;
+use store::read::Body;
+use store::read::body_of;
+use store::read::id_of;
+use tree::path::put_path;
+use tree::row::Kind;
+use tree::table::kind_at;
+use tree::table::rev_at;
+use writes::write;
+ghost use mathlib.Core.Path.{_≡_};
+ghost use mathlib.Core.List.{[], _∷_};
+ghost use Prim.Native.Nat.{_<_};
+ghost use Rattle.rules.specs.declared.Refusal.{Refusal};
+ghost use Rattle.rules.specs.Pull.{offersOf, count};
+ghost use Rattle.rules.specs.Room.{revisionsMost};
+ghost use Rattle.union.specs.Said.{total};
+ghost use Rattle.tree.specs.Table.{treeAt};
+ghost use Rattle.store.specs.Documents.{documentsOf, documentAt};
+ghost use Rattle.pulls.specs.Pulls.{CanPull, Pulled, Offered, offerOf, CanOffer, CanOfferAll};
+
+// The bytes of the longest path.
+const PATH: usize = PATH_HASHES * 16;
+
+fn count_accepted(c: Counts, o: Outcome) -> Counts
+    requires { ⌜ total c < revisionsMost ⌝ }
+    ensures { λ r. ⌜ r ≡ count (Written.Accepted o) c ⌝ }
+{
+    match o {
+        Outcome::Changed => Counts {
+            changed: c.changed + 1,
+            unchanged: c.unchanged,
+            refused: c.refused,
+        },
+        Outcome::Unchanged => Counts {
+            changed: c.changed,
+            unchanged: c.unchanged + 1,
+            refused: c.refused,
+        },
+    }
+}
+
+fn count_refused(c: Counts) -> Counts
+    requires { ⌜ total c < revisionsMost ⌝ }
+    ensures { λ r. ⌜ ((n : Refusal) → r ≡ count (Written.Refused n) c) ⌝ }
+{
+    Counts {
+        changed: c.changed,
+        unchanged: c.unchanged,
+        refused: c.refused + 1,
+    }
+}
+
+// Offers one leaf with its whole path, whose hashes stand in `path` meanwhile.
+fn offer_leaf(
+    target: &mut [u8],
+    source: &[u8],
+    body: Body,
+    id: &[u8],
+    rev: Revision,
+    content: Content,
+    counts: Counts,
+    path: &mut [u8],
+) -> Counts
+    requires { ⌜ CanOffer (now source) body rev counts (now target) (now path) ⌝ }
+    ensures { λ r. ⌜ Offered (offerOf (now (id .entry)) (treeAt (body .base) (body .rows) (now (source .entry))) rev content ∷ []) counts (now (target .entry)) (now (path .entry)) r (now (target .exit)) (now (path .exit)) ⌝ }
+{
+    let number = rev.number;
+    let end = put_path(source, body.base, body.rows, rev, path, 0);
+    let Written::Accepted(o) = write(target, id, number, &path[..end], content) else {
+        return count_refused(counts);
+    };
+    count_accepted(counts, o)
+}
+
+// Offers the leaves of document d, the highest first.
+fn offer_document(
+    target: &mut [u8],
+    source: &[u8],
+    d: usize,
+    counts: Counts,
+    path: &mut [u8],
+) -> Counts
+    requires { ⌜ CanOfferAll (now source) d counts (now target) (now path) ⌝ }
+    ensures { λ r. ⌜ Offered (offersOf (documentAt (documentsOf (now (source .entry))) d)) counts (now (target .entry)) (now (path .entry)) r (now (target .exit)) (now (path .exit)) ⌝ }
+{
+    let id = id_of(source, d);
+    let body = body_of(source, d);
+    let base = body.base;
+    let mut i = body.rows;
+    let mut c = counts;
+    while 0 < i {
+        i -= 1;
+        match kind_at(source, base, i) {
+            Kind::Inner => {}
+            Kind::Leaf(content) => {
+                let rev = rev_at(source, base, i);
+                c = offer_leaf(target, source, body, id, rev, content, c, path);
+            }
+        }
+    }
+    c
+}
+
+// Offers every leaf of the source's documents after a sequence to the target, documents in the order
+// of their own sequence, and counts what became of the offers.
+pub fn pull(target: &mut [u8], source: &[u8], after: Seq) -> Counts
+    requires { ⌜ CanPull (now source) (now target) ⌝ }
+    ensures { λ r. ⌜ Pulled after (now (source .entry)) (now (target .entry)) r (now (target .exit)) ⌝ }
+{
+    let mut path = [0u8; PATH];
+    let mut s = after;
+    let mut counts = Counts {
+        changed: 0,
+        unchanged: 0,
+        refused: 0,
+    };
+    loop {
+        let Next::At(d, q) = next_after(source, s) else {
+            return counts;
+        };
+        s = q;
+        counts = offer_document(target, source, d, counts, &mut path);
+    }
+}
