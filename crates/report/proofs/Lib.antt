@@ -4,3 +4,4 @@ pub mod PutLaws
 pub mod WinnerLaws
 pub mod StandingLaws
 pub mod FaultLaws
+pub mod AnswerLaws
