@@ -42,8 +42,7 @@ unfolding readReport
 lot-listing out after r h d =
     let n : length (report (image lots)) ≡ 106 = ap length listing ∙ (unfold text in refl) in
     let k : length (report (image lots)) ≤ length out = omega arith in
-    let f = fits-in (length (report (image lots))) (report (image lots)) out (splice out 0 (report (image lots))) k refl in
-    (
+    let f = fits-in (length (report (image lots))) (report (image lots)) out (splice out 0 (report (image lots))) k refl in (
       d .answers ∙ (sym (f .answers) ∙ ap Count n),
       ap (take 106) (d .leaves ∙ sym (f .leaves)) ∙ (front-taken out (report (image lots)) 106 n ∙ listing),
     )

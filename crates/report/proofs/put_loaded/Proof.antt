@@ -7,55 +7,42 @@ use Rattle.report.specs.Loaded.{Answers}
 use borrow.Author.Needs.{needs}
 use Rattle.report.proofs.put_loaded.Statement.{statement}
 use Rattle.report.proofs.put_loaded.Tie as tie
-use Rattle.report.proofs.put_loaded.Reads as reads
-use Rattle.report.proofs.put_loaded.Lts as lts
-use Rattle.report.proofs.line.put_refused.Reads as put-refused-reads
-use Rattle.report.proofs.line.put_replica.Reads as put-replica-reads
 
--- src/lib.rt:30:44
 enum-told : tie.Need-enum-told
 enum-told c = search needs
 
--- src/lib.rt:30:29
 put-replica-requires : tie.Need-put-replica-requires
-put-replica-requires c κs = 
+put-replica-requires c κs =
     let g = (c .before .enum-told) .given in
     let e : (c .before .before .before .before .before) .args .loaded ≡ Accepted = cc in
     record { stored = subst (λ (l : Loaded). Answers l ((c .before .before .before .before .before) .args .b .now)) e ((c .before .before .before .before .before) .pre .answers); room = (c .before .before .before .before .before) .pre .room }
 
--- src/lib.rt:31:25
 enum-known-loaded : tie.Need-enum-known-loaded
 enum-known-loaded c = search needs
 
--- src/lib.rt:31:56
 cast-put-refused : tie.Need-cast-put-refused
-cast-put-refused c = 
+cast-put-refused c =
     let g = (c .before .before .loaded) .given in
     let e : (c .before .before .before .before .before .before) .args .loaded ≡ Refused (g .0 .0) (g .0 .1 .0) = cc in
     omega (arith, subst (λ (l : Loaded). Answers l ((c .before .before .before .before .before .before) .args .b .now)) e ((c .before .before .before .before .before .before) .pre .answers))
 
--- src/lib.rt:31:38
 put-refused-requires : tie.Need-put-refused-requires
 put-refused-requires c κs = search needs
 
--- src/lib.rt:25:1
 same-length : tie.Need-same-length
 same-length c = search needs
 
--- src/lib.rt:25:1
 returns : tie.Need-returns
-returns c = 
+returns c =
     let g = (c .before .before .before .before .enum-told) .given in
     let e : (c .before .before .before .before .before .before .before .before) .args .loaded ≡ Accepted = cc in
     rw e ((c .before .before .put-replica) .ensures)
 
--- src/lib.rt:25:1
 same-length-2 : tie.Need-same-length-2
 same-length-2 c = search needs
 
--- src/lib.rt:25:1
 returns-2 : tie.Need-returns-2
-returns-2 c = 
+returns-2 c =
     let g = (c .before .before .before .before .before .loaded) .given in
     let e : (c .before .before .before .before .before .before .before .before .before) .args .loaded ≡ Refused (g .0 .0) (g .0 .1 .0) = cc in
     rw e (record { put = (c .before .before .put-refused) .ensures .put; most = omega (arith, (c .before .before .put-refused) .ensures .most) })
