@@ -1,6 +1,7 @@
 -- Each public function has one outcome. Assumes nothing.
 use mathlib.Core.Path.{refl}
-use Rattle.rules.specs.Outcome.{OneOutcome, fixed}
+use Rattle.rules.specs.Outcome.{OneOutcome}
+use Rattle.rules.proofs.OutcomeLaws.{fixed}
 use Rattle.octets.proofs.number.get2.Kinds as get2
 use Rattle.octets.proofs.number.get2.Reads as get2'
 use Rattle.octets.proofs.number.get4.Kinds as get4

@@ -4,3 +4,4 @@ pub mod MapLaws
 pub mod Examples
 pub mod ByteLaws
 pub mod Readings
+pub mod OutcomeLaws

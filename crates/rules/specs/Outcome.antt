@@ -1,6 +1,6 @@
 -- "For every input, refusals among them, a public function's promise leaves one possible outcome:
 -- answer, replica and lent bytes." Stated once, over the promise of any compiled function.
-use mathlib.Core.Path.{_≡_, sym, _∙_}
+use mathlib.Core.Path.{_≡_}
 use mathlib.Core.List.{List}
 use Prim.Native.Nat.{ℕ}
 use contract.Lifetimes.{Lfts}
@@ -39,16 +39,7 @@ module _ (n : ℕ) (ps : List (PK n)) (r : RK n) where
 abbrev pub nothing : {A B : Type 0} → A → B → Unit {0}
 nothing a b = tt
 
--- what one equation fixes is one value
-pub fixed : {A : Type 0} {x y a : A} → x ≡ a → y ≡ a → x ≡ y
-fixed p q = p ∙ sym q
-
 -- a call that answers, and leaves a lent buffer, as o says
 pub record Does {A : Type 0} (o : A × List ℕ) (answer : A) (buffer : List ℕ) : Type 0 where
   pub answers : answer ≡ o .0
   pub leaves : buffer ≡ o .1
-
--- it has one outcome
-pub does-one :
-    {A : Type 0} {o : A × List ℕ} {x y : A} {s t : List ℕ} → Does o x s → Does o y t → (x ≡ y) × (s ≡ t)
-does-one p q = (fixed (p .answers) (q .answers), fixed (p .leaves) (q .leaves))

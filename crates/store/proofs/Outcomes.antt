@@ -2,7 +2,8 @@
 use mathlib.Core.Path.{_≡_, refl}
 use mathlib.Core.List.{List}
 use Prim.Native.Nat.{ℕ}
-use Rattle.rules.specs.Outcome.{OneOutcome, OneOutcomeBy, nothing, fixed}
+use Rattle.rules.specs.Outcome.{OneOutcome, OneOutcomeBy, nothing}
+use Rattle.rules.proofs.OutcomeLaws.{fixed}
 use Rattle.store.specs.declared.read.Body.{Body}
 use Rattle.store.specs.Documents.{IsBody}
 use Rattle.store.proofs.read.documents_held.Kinds as documents-held

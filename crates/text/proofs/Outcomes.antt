@@ -2,7 +2,8 @@
 use mathlib.Core.Path.{_≡_}
 use mathlib.Core.List.{List}
 use Prim.Native.Nat.{ℕ}
-use Rattle.rules.specs.Outcome.{OneOutcome, fixed}
+use Rattle.rules.specs.Outcome.{OneOutcome}
+use Rattle.rules.proofs.OutcomeLaws.{fixed}
 use Rattle.text.specs.Text.{Put}
 use Rattle.text.proofs.put_word.Kinds as put-word
 use Rattle.text.proofs.put_word.Reads as put-word'

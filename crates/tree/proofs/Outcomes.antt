@@ -1,6 +1,7 @@
 -- Each public function has one outcome. Assumes nothing.
 use mathlib.Core.Path.{refl}
-use Rattle.rules.specs.Outcome.{OneOutcome, fixed}
+use Rattle.rules.specs.Outcome.{OneOutcome}
+use Rattle.rules.proofs.OutcomeLaws.{fixed}
 use Rattle.tree.proofs.row.put_row.Kinds as put-row
 use Rattle.tree.proofs.row.put_row.Reads as put-row'
 use Rattle.tree.proofs.row.compare.Kinds as compare

@@ -18,7 +18,7 @@ use Rattle.rules.specs.Order.{orderRev}
 use Rattle.rules.specs.Pull.{offer, offersOf, offersIn, offers}
 use Rattle.rules.specs.Read.{LeafOf, leaves, parentIn, ancestry, pathOf, insertBySeq, documentsAfter}
 use Rattle.rules.specs.Replica.{Id, Hash, revision, Node, Tree, Document, Replica, documentOf, treeOf, revisionsHeld, HasContent, IsId, IsTree, IsDocument, IsReplica}
-use Rattle.rules.specs.Room.{idMost, hashSize, last}
+use Rattle.rules.specs.Room.{idMost, hashSize, hashesMost, last}
 use Rattle.rules.specs.Union.{In, IsWrite, allFrom}
 use Rattle.rules.specs.Write.{Write, hashes, newestOf, along, gives, badId, lowNumber}
 use Rattle.rules.proofs.OrderLaws.{bytesOrder, revOrder, rev-path}
@@ -367,6 +367,18 @@ module _ (r : Replica) (k : IsReplica r) where
         u .2,
       )
 
+  -- the path of a leaf is no longer than a path can be
+  pub path-room : (i : Id) (d : Document) → In (i, d) (r .documents) → IsDocument r i d → (a : LeafOf) → HasContent (d .tree) (a .rev) (a .content)
+      → length (pathOf (d .tree) (a .rev)) ≤ hashesMost
+  unfolding pathOf
+  path-room i d j h a c =
+      let n = a .rev .number .0 in
+      let fits = path-in-tree (d .tree) (h .tree) n (a .rev) (c .0) (c .1) refl in
+      let all = upTo-all n (d .tree) in
+      let size = length-held (r .documents) (i, d) j in
+      let room = k .revisions-most in
+      omega arith
+
   -- each is well-formed
   pub offers-well : (s : Seq) (w : Write) → In w (offers s r) → Well w
   unfolding offer pathOf ancestry lowNumber
@@ -380,25 +392,24 @@ module _ (r : Replica) (k : IsReplica r) where
       go i d j h a c =
           let n = a .rev .number .0 in
           let few = path-length (d .tree) (h .tree) n (a .rev) in
-          let fits = path-in-tree (d .tree) (h .tree) n (a .rev) (c .0) (c .1) refl in
-          let all = upTo-all n (d .tree) in
-          let size = length-held (r .documents) (i, d) j in
-          let room = k .revisions-most in
           let some-hash = positive n (d .tree) (a .rev) (h .tree .revisions (a .rev) (c .0, c .1) .least) in
           record {
             id-ok = id-good i (h .id);
-            path-ok = path-good (offer i (d .tree) a) (pathOf (d .tree) (a .rev)) refl (path-sized (d .tree) (h .tree) n (a .rev) (c .0) (c .1)) some-hash (omega arith);
+            path-ok = path-good (offer i (d .tree) a) (pathOf (d .tree) (a .rev)) refl (path-sized (d .tree) (h .tree) n (a .rev) (c .0) (c .1)) some-hash
+                (path-room i d j h a c);
             number-ok = rw (offer-hashes (d .tree) (h .tree) i a c) (le-ltb n (length (pathOf (d .tree) (a .rev))) few);
           }
 
-  pub offers-range : (s : Seq) (w : Write) → In w (offers s r) → IsWrite w
+  -- what the offer of a leaf gives is in its range
+  pub offer-range : (i : Id) (d : Document) → IsDocument r i d → (a : LeafOf) → HasContent (d .tree) (a .rev) (a .content) → IsWrite (offer i (d .tree) a)
   unfolding offer pathOf
-  offers-range s w m = let l = from-leaf s w m in subst IsWrite (sym (l .offered)) (go (l .id) (l .document) (l .is) (l .leaf) (l .content))
-    where
-      go : (i : Id) (d : Document) → IsDocument r i d → (a : LeafOf) → HasContent (d .tree) (a .rev) (a .content) → IsWrite (offer i (d .tree) a)
-      go i d h a c = record {
-        id = h .id .bytes;
-        number = h .tree .revisions (a .rev) (c .0, c .1) .most;
-        path = bytes-join (pathOf (d .tree) (a .rev)) (path-bytes (d .tree) (h .tree) (a .rev .number .0) (a .rev) (c .0) (c .1));
-        content = h .tree .contents (a .rev) (a .content) c;
-      }
+  offer-range i d h a c = record {
+    id = h .id .bytes;
+    number = h .tree .revisions (a .rev) (c .0, c .1) .most;
+    path = bytes-join (pathOf (d .tree) (a .rev)) (path-bytes (d .tree) (h .tree) (a .rev .number .0) (a .rev) (c .0) (c .1));
+    content = h .tree .contents (a .rev) (a .content) c;
+  }
+
+  pub offers-range : (s : Seq) (w : Write) → In w (offers s r) → IsWrite w
+  offers-range s w m =
+      let l = from-leaf s w m in subst IsWrite (sym (l .offered)) (offer-range (l .id) (l .document) (l .is) (l .leaf) (l .content))

@@ -34,13 +34,13 @@ use Rattle.union.proofs.Offers.{offers-out, offers-own, offers-range, o
 
 -- ---- the counts
 
-count-one : (o : Written) (c : Counts) → total (count o c) ≡ suc (total c)
+pub count-one : (o : Written) (c : Counts) → total (count o c) ≡ suc (total c)
 unfolding count
 count-one (Accepted Changed) c = omega arith
 count-one (Accepted Unchanged) c = omega arith
 count-one (Refused n) c = omega arith
 
-take-in-total : (ws : List Write) (c : Counts) (r : Replica) → total (take-in ws (c, r) .0) ≡ length ws + total c
+pub take-in-total : (ws : List Write) (c : Counts) (r : Replica) → total (take-in ws (c, r) .0) ≡ length ws + total c
 unfolding take-in
 take-in-total [] c r = omega arith
 take-in-total (w ∷ ws) c r =

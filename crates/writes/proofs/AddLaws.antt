@@ -13,7 +13,8 @@ use Rattle.rules.specs.declared.Revision.{Revision}
 use Rattle.rules.specs.Map.{Map, find, alter, Ascending}
 use Rattle.rules.specs.Order.{orderRev}
 use Rattle.rules.specs.Replica.{Hash, revision, Node, Tree}
-use Rattle.rules.specs.Write.{along, learn, addAll}
+use Rattle.rules.specs.Choice.{pick}
+use Rattle.rules.specs.Write.{along, learn, addAll, isNone, isNew, countNew}
 use Rattle.rules.proofs.OrderLaws.{TotalOrder, less≢equal, equal≢greater, revOrder}
 use Rattle.rules.proofs.MapLaws.{find-same, find-other, ascending-alter, ext}
 use Rattle.writes.specs.Path.{addLast}
@@ -113,3 +114,69 @@ pub addLast-append : (gs hs : List (Revision × Node)) (t : Tree) → addLast (g
 unfolding addLast
 addLast-append [] hs t = refl
 addLast-append (g ∷ gs) hs t = ap (alter orderRev (g .0) (learn (g .1))) (addLast-append gs hs t)
+
+-- ---- how many revisions it adds
+
+module _ {K A : Type 0} (O : TotalOrder K) where
+  pub length-alter : (k : K) (f : Option A → A) (t : Map K A) → length (alter (O .cmp) k f t) ≡ pick (isNone (find (O .cmp) k t)) 1 0 + length t
+  unfolding alter find
+  length-alter k f [] = refl
+  length-alter k f (x ∷ t) = go (O .cmp k (x .0)) refl (length-alter k f t)
+    where
+      go : (o : Order) → O .cmp k (x .0) ≡ o → length (alter (O .cmp) k f t) ≡ pick (isNone (find (O .cmp) k t)) 1 0 + length t
+          → length (alter (O .cmp) k f (x ∷ t)) ≡ pick (isNone (find (O .cmp) k (x ∷ t))) 1 0 + suc (length t)
+      go Less e ih = rw e (omega arith)
+      go Equal e ih = rw e (omega arith)
+      go Greater e ih = rw e (omega arith)
+
+-- what lies above all that is added stays known or unknown
+pub above-stays : (v : Revision) (gs : List (Revision × Node)) (t : Tree) → Lower (v .number .0) gs → find orderRev v (addLast gs t) ≡ find orderRev v t
+unfolding addLast
+above-stays v [] t l = refl
+above-stays v (g ∷ gs) t l =
+    let h = l .0 in
+    find-other revOrder v (g .0) (learn (g .1)) (addLast gs t) (number-differs v (g .0) (λ e. omega arith)) ∙ above-stays v gs t (l .1)
+
+pub length-addLast : (gs : List (Revision × Node)) (t : Tree) → Falls gs → length (addLast gs t) ≡ countNew t gs + length t
+unfolding addLast countNew isNew
+length-addLast [] t f = omega arith
+length-addLast (g ∷ gs) t f =
+    let a = length-alter revOrder (g .0) (learn (g .1)) (addLast gs t) in
+    let b = ap {B = ℕ} (λ (o : Option Node). pick (isNone o) 1 0) (above-stays (g .0) gs t (f .0)) in
+    let c = length-addLast gs t (f .1) in
+    omega arith
+
+pub falls-drop : (k : ℕ) (gs : List (Revision × Node)) → Falls gs → Falls (drop k gs)
+falls-drop zero gs f = f
+falls-drop (suc k) [] f = tt
+falls-drop (suc k) (g ∷ gs) f = falls-drop k gs (f .1)
+
+lower-take : (m n : ℕ) (gs : List (Revision × Node)) → Lower n gs → Lower n (take m gs)
+lower-take zero n gs l = tt
+lower-take (suc m) n [] l = tt
+lower-take (suc m) n (g ∷ gs) l = (l .0, lower-take m n gs (l .1))
+
+pub falls-take : (m : ℕ) (gs : List (Revision × Node)) → Falls gs → Falls (take m gs)
+falls-take zero gs f = tt
+falls-take (suc m) [] f = tt
+falls-take (suc m) (g ∷ gs) f = (lower-take m (g .0 .number .0) gs (f .0), falls-take m gs (f .1))
+
+pub count-drop : (t : Tree) (k : ℕ) (gs : List (Revision × Node)) → countNew t (drop k gs) ≤ countNew t gs
+unfolding countNew
+count-drop t zero gs = omega arith
+count-drop t (suc k) [] = omega arith
+count-drop t (suc k) (g ∷ gs) = let h = count-drop t k gs in omega arith
+
+pub count-take : (t : Tree) (m : ℕ) (gs : List (Revision × Node)) → countNew t (take m gs) ≤ countNew t gs
+unfolding countNew
+count-take t zero gs = omega arith
+count-take t (suc m) [] = omega arith
+count-take t (suc m) (g ∷ gs) = let h = count-take t m gs in omega arith
+
+-- one more of those taken
+pub next-taken : {A : Type 0} (k m : ℕ) (xs : List A) (x : A) → k < m → drop k xs ≡ x ∷ drop (suc k) xs → drop k (take m xs) ≡ x ∷ drop (suc k) (take m xs)
+next-taken k zero xs x h e = absurd (omega arith)
+next-taken zero (suc m) [] x h e = e
+next-taken zero (suc m) (y ∷ xs) x h e = let q : y ≡ x = cc in ap (λ (z : _). z ∷ take m xs) q
+next-taken (suc k) (suc m) [] x h e = e
+next-taken (suc k) (suc m) (y ∷ xs) x h e = next-taken k m xs x (omega arith) e

@@ -18,7 +18,7 @@ use Rattle.rules.proofs.ByteLaws.{length-pieces}
 use Rattle.writes.specs.Path.{countOf, badBytes, GoodForm}
 use Rattle.writes.proofs.ReachLaws.{or-left, or-right}
 
-length-hashes : (w : Write) → length (hashes w) ≡ countOf (w .path)
+pub length-hashes : (w : Write) → length (hashes w) ≡ countOf (w .path)
 unfolding hashes countOf
 length-hashes w = length-pieces (length (w .path) / hashSize) hashSize (w .path)
 
@@ -70,6 +70,9 @@ module _ (w : Write) where
 
 -- ---- a good form
 
+pub positive : (k : ℕ) → (k ≡ 0 → ⊥) → 1 ≤ k
+positive k h = omega arith
+
 pub good-form : (w : Write) → firstThat (formRefusals w) ≡ none → GoodForm w
 unfolding badId badBytes countOf
 good-form w e =
@@ -92,6 +95,3 @@ good-form w e =
       id-least = positive (length (w .id)) u;
       id-most = v;
     }
-  where
-    positive : (k : ℕ) → (k ≡ 0 → ⊥) → 1 ≤ k
-    positive k h = omega arith

@@ -6,3 +6,9 @@ pub mod ReachLaws
 pub mod EditLaws
 pub mod FormLaws
 pub mod PassLaws
+pub mod StateLaws
+pub mod JudgeLaws
+pub mod LearnLaws
+pub mod WriteLaws
+pub mod Outcomes
+pub mod Frame

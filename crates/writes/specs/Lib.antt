@@ -3,3 +3,6 @@ pub mod Path
 pub mod Plan
 pub mod Edit
 pub mod Verdict
+pub mod Judge
+pub mod Apply
+pub mod Always

@@ -1,14 +1,25 @@
 // The refusals of a write's form, 1 to 3.
+use rules::Content;
 use rules::PATH_HASHES;
 use rules::Refusal;
 use rules::RevNumber;
 ghost use mathlib.Core.Path.{_≡_};
-ghost use Rattle.rules.specs.declared.Content.{Content};
 ghost use Rattle.rules.specs.Choice.{firstThat};
+ghost use Rattle.rules.specs.Replica.{IsContent};
 ghost use Rattle.rules.specs.Write.{badId, formRefusals};
 ghost use lib.Dec.{ltb};
 ghost use Rattle.writes.specs.Path.{writeOf, countOf, badBytes};
 ghost use Rattle.writes.specs.Verdict.{verdictOf};
+
+// The same content: its label is below 2^64, as every u64 is, and here that is said of it.
+pub(crate) fn in_range(content: Content) -> Content
+    ensures { λ r. ⌜ (r ≡ content) × IsContent content ⌝ }
+{
+    match content {
+        Content::Live(n) => Content::Live(n),
+        Content::Deleted => Content::Deleted,
+    }
+}
 
 // A refusal, or none.
 pub enum Verdict {

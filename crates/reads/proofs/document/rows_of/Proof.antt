@@ -1,0 +1,51 @@
+-- `document::rows_of` meets its contract. Assumes nothing.
+use mathlib.Core.Path.{sym, _∙_}
+use borrow.Author.Needs.{needs}
+use Rattle.store.proofs.FitLaws.{stored-laid}
+use Rattle.store.proofs.PlaceLaws.{id-found}
+use Rattle.reads.proofs.OpenLaws.{refused-id, opens, opens-none}
+use Rattle.reads.proofs.document.rows_of.Statement.{statement}
+use Rattle.reads.proofs.document.rows_of.Tie as tie
+
+bad-id-requires : tie.Need-bad-id-requires
+bad-id-requires c κs = search needs
+
+returns : tie.Need-returns
+returns c = refused-id _ _ (sym ((c .before .bad-id) .ensures) ∙ (c .if1) .taken)
+
+find-document-requires : tie.Need-find-document-requires
+find-document-requires c κs = stored-laid _ ((c .before .before .before .before) .pre)
+
+enum-known-d : tie.Need-enum-known-d
+enum-known-d c = search needs
+
+body-of-requires : tie.Need-body-of-requires
+body-of-requires c κs =
+    let g = (c .before .d) .given in
+    record { laid = stored-laid _ ((c .before .before .before .before .before .before .before .before) .pre); within = id-found (g .0 .0) _ _ (sym ((c .before .before .before .find-document) .ensures) ∙ g .1) .within }
+
+enum-told : tie.Need-enum-told
+enum-told c = search needs
+
+returns-2 : tie.Need-returns-2
+returns-2 c =
+    let g = (c .before .before .d) .given in
+    opens _ _ (g .0 .0) (sym ((c .before .before .before .before .before .before .bad-id) .ensures) ∙ (c .before .before .before .before .before .if1) .left) _ ((c .before .before .before .before .before .before .before .before .before) .pre) (sym ((c .before .before .before .before .find-document) .ensures) ∙ g .1) ((c .body-of) .ensures)
+
+returns-3 : tie.Need-returns-3
+returns-3 c =
+    let g = (c .enum-told) .given in
+    opens-none _ _ (g .0 .0) (sym ((c .before .before .before .before .bad-id) .ensures) ∙ (c .before .before .before .if1) .left) (sym ((c .before .before .find-document) .ensures) ∙ g .1)
+
+pub rows-of-spec : {M : Type 1} → statement M
+rows-of-spec =
+    tie.close
+    (tie.spec
+    bad-id-requires
+    returns
+    find-document-requires
+    enum-known-d
+    body-of-requires
+    enum-told
+    returns-2
+    returns-3)

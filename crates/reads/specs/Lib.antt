@@ -1,0 +1,3 @@
+-- What the promises of this crate's helpers cite.
+pub mod Reads
+pub mod Next

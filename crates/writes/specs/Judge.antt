@@ -1,0 +1,66 @@
+-- The refusals 4 to 8 from a plan, and what a write or an edit promises.
+use mathlib.Core.Path.{_≡_}
+use mathlib.Core.Bool.{Bool, not, _&&_}
+use mathlib.Core.List.{List, [], _∷_}
+use mathlib.Core.Option.{none}
+use Prim.Native.Nat.{ℕ, _+_}
+use lib.Dec.{eqb, leb, ltb}
+use lib.ListN.{length}
+use Rattle.rules.specs.declared.Content.{Content}
+use Rattle.rules.specs.declared.Edited.{Edited}
+use Rattle.rules.specs.declared.Refusal.{Refusal}
+use Rattle.rules.specs.declared.Refusal.the-variants.{OtherParent, OtherContent, DocumentsFull, RevisionsFull, SequenceSpent}
+use Rattle.rules.specs.declared.RevNumber.{RevNumber}
+use Rattle.rules.specs.declared.Written.{Written}
+use Rattle.rules.specs.Choice.{firstThat}
+use Rattle.rules.specs.Edit.{Edit, edit}
+use Rattle.rules.specs.Replica.{Id, Replica, revisionsHeld}
+use Rattle.rules.specs.Room.{documentsMost, revisionsMost, last}
+use Rattle.rules.specs.Write.{Write, formRefusals, write}
+use Rattle.store.specs.Storage.{stored, replicaOf, IsStored}
+use Rattle.store.specs.Change.{Holds}
+use Rattle.store.specs.Documents.{documentsOf, documentAt, placeOfId}
+use Rattle.tree.specs.declared.table.Found.the-variants.{At, Gap}
+use Rattle.writes.specs.declared.plan.Plan.{Plan}
+use Rattle.writes.specs.Path.{writeOf}
+
+-- 4 to 8 of a write whose plan is p, on a document that is absent or not
+unfoldable pub judged : Replica → Bool → Plan → List (Bool × Refusal)
+judged r absent p =
+    (p .crossed, OtherParent)
+    ∷ (p .other, OtherContent)
+    ∷ (absent && leb documentsMost (length (r .documents)), DocumentsFull)
+    ∷ (ltb revisionsMost (revisionsHeld (r .documents) + p .revisions), RevisionsFull)
+    ∷ (not (eqb (p .reach) 0) && eqb (r .seq .0) last, SequenceSpent)
+    ∷ []
+
+-- the answer of a write to what s holds, and the replica that is held after it
+pub record Does (s : List ℕ) (w : Write) (r : Written) (after : List ℕ) : Type 0 where
+  pub answer : r ≡ write (replicaOf s) w .0
+  pub holds : Holds (write (replicaOf s) w .1) after
+
+-- a write of a good form, to document d
+pub record CanWriteHeld (s : List ℕ) (d : ℕ) (number : RevNumber) (path : List ℕ) (c : Content) : Type 0 where
+  pub stored : IsStored s
+  pub place : placeOfId 0 (documentAt (documentsOf s) d .0) (documentsOf s) ≡ At d
+  pub form : firstThat (formRefusals (writeOf (documentAt (documentsOf s) d .0) number path c)) ≡ none
+
+-- and to a document that is absent and goes in at d
+pub record CanWriteNew (s : List ℕ) (d : ℕ) (i : Id) (number : RevNumber) (path : List ℕ) (c : Content) : Type 0 where
+  pub stored : IsStored s
+  pub place : placeOfId 0 i (documentsOf s) ≡ Gap d
+  pub form : firstThat (formRefusals (writeOf i number path c)) ≡ none
+
+-- what a write promises: the answer, every byte that it leaves, and that they are a replica
+pub record Wrote (s : List ℕ) (w : Write) (r : Written) (after : List ℕ) : Type 0 where
+  pub answer : r ≡ write (replicaOf s) w .0
+  pub left : after ≡ stored (write (replicaOf s) w .1)
+  pub means : replicaOf after ≡ write (replicaOf s) w .1
+  pub is : IsStored after
+
+-- what an edit promises
+pub record Edits (s : List ℕ) (e : Edit) (r : Edited) (after : List ℕ) : Type 0 where
+  pub answer : r ≡ edit (replicaOf s) e .0
+  pub left : after ≡ stored (edit (replicaOf s) e .1)
+  pub means : replicaOf after ≡ edit (replicaOf s) e .1
+  pub is : IsStored after
