@@ -1,6 +1,8 @@
--- Laws of the report.
+-- Laws of the report, and that each public function has one outcome.
 pub mod LengthLaws
 pub mod PutLaws
 pub mod WinnerLaws
 pub mod StandingLaws
 pub mod FaultLaws
+pub mod AnswerLaws
+pub mod JudgedLaws

@@ -1,2 +1,3 @@
 -- What the promises of this crate's helpers cite.
 pub mod Lines
+pub mod Loaded

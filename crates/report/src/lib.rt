@@ -1,3 +1,45 @@
 // Report: what the check program prints for the bytes of an image.
-// It uses the crates rules, octets, tree, store and text, and the laws of the crates images and union.
-pub mod line;
+// It takes every input of every length. It uses the crates rules, octets, tree, store and text, and the
+// laws of the crates images and union.
+mod line;
+
+use line::put_refused;
+use line::put_replica;
+use octets::run::copy_in;
+use rules::Answered;
+use rules::DOCUMENTS;
+use rules::Loaded;
+use rules::Refusal;
+ghost use mathlib.Core.List.{[]};
+ghost use Prim.Native.Nat.{_≤_};
+ghost use lib.ListN.{length, take};
+ghost use Rattle.rules.specs.Outcome.{Does};
+ghost use Rattle.rules.specs.Read.{reads};
+ghost use Rattle.report.specs.Lines.{reportMost, PutWithin};
+ghost use Rattle.report.specs.Loaded.{loadedText, CanPutLoaded};
+
+// The longest report: a head line of 57 bytes, and 170 for each document.
+pub const REPORT_MOST: usize = 57 + 170 * DOCUMENTS;
+
+// The report of what a load answered and left in b.
+fn put_loaded(loaded: Loaded, b: &[u8], s: &mut [u8]) -> usize
+    requires { ⌜ CanPutLoaded loaded (now b) (now s) ⌝ }
+    ensures { λ r. ⌜ PutWithin reportMost (loadedText loaded (now (b .entry))) (now (s .entry)) 0 r (now (s .exit)) ⌝ }
+{
+    match loaded {
+        Loaded::Accepted => put_replica(b, s),
+        Loaded::Refused(f, place) => put_refused(s, f, place as u32),
+    }
+}
+
+// Hands the first n bytes of s over, or refuses where they don't fit.
+fn hand_over(s: &[u8], n: usize, out: &mut [u8]) -> Answered
+    requires { ⌜ n ≤ length (now s) ⌝ }
+    ensures { λ r. ⌜ Does (reads [] n (take n (now (s .entry))) (now (out .entry))) r (now (out .exit)) ⌝ }
+{
+    if out.len() < n {
+        return Answered::Refused(Refusal::ShortBuffer);
+    }
+    copy_in(out, 0, &s[..n]);
+    Answered::Count(n)
+}

@@ -46,8 +46,8 @@ pub(crate) fn put_head(b: &[u8], s: &mut [u8]) -> usize
     let revisions = revisions_held(b);
     let d = put_field(s, 0, b"seq ", seq.0);
     let r = put_field(s, d, b" documents ", documents as u32);
-    let end = put_field(s, r, b" revisions ", revisions as u32);
-    put_word(s, end, b"\n")
+    let head_end = put_field(s, r, b" revisions ", revisions as u32);
+    put_word(s, head_end, b"\n")
 }
 
 // A revision as number and hash.
@@ -68,8 +68,8 @@ fn put_counts(s: &mut [u8], at: usize, leaves: usize) -> usize
     ensures { λ r. ⌜ PutWithin countsMost (countsText leaves) (now (s .entry)) at r (now (s .exit)) ⌝ }
 {
     let c = put_field(s, at, b" leaves ", leaves as u32);
-    let end = put_field(s, c, b" conflicts ", (leaves - 1) as u32);
-    put_word(s, end, b"\n")
+    let line_end = put_field(s, c, b" conflicts ", (leaves - 1) as u32);
+    put_word(s, line_end, b"\n")
 }
 
 fn fault_number(f: Fault) -> u32
@@ -91,7 +91,8 @@ pub(crate) fn put_refused(s: &mut [u8], f: Fault, place: u32) -> usize
     requires { ⌜ refusedMost ≤ length (now s) ⌝ }
     ensures { λ r. ⌜ PutWithin refusedMost (refusedText (f, place)) (now (s .entry)) 0 r (now (s .exit)) ⌝ }
 {
-    let at = put_field(s, 0, b"refused ", fault_number(f));
+    let number = fault_number(f);
+    let at = put_field(s, 0, b"refused ", number);
     let end = put_field(s, at, b" at ", place);
     put_word(s, end, b"\n")
 }

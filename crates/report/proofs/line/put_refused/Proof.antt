@@ -6,11 +6,11 @@ use borrow.Author.Needs.{needs}
 use Rattle.report.proofs.line.put_refused.Statement.{statement}
 use Rattle.report.proofs.line.put_refused.Tie as tie
 
-slice-aggregate-put-field : tie.Need-slice-aggregate-put-field
-slice-aggregate-put-field c = search needs
-
 fault-number-requires : tie.Need-fault-number-requires
 fault-number-requires c κs = search needs
+
+slice-aggregate-put-field : tie.Need-slice-aggregate-put-field
+slice-aggregate-put-field c = search needs
 
 put-field-requires : tie.Need-put-field-requires
 put-field-requires c κs = search needs
@@ -34,7 +34,7 @@ returns : tie.Need-returns
 unfolding text
 returns c =
     record {
-      put = put-as (refused-joined ((c .before .before .before .before .before .before .before .before .before .before .before .before .before .before .before .before .before) .args .f, (c .before .before .before .before .before .before .before .before .before .before .before .before .before .before .before .before .before) .args .place) ((c .before .before .before .before .before .before .before .before .before .before .before .before .before .fault-number) .result) ((c .before .before .before .before .before .before .before .before .before .before .before .before .before .fault-number) .ensures))
+      put = put-as (refused-joined ((c .before .before .before .before .before .before .before .before .before .before .before .before .before .before .before .before .before) .args .f, (c .before .before .before .before .before .before .before .before .before .before .before .before .before .before .before .before .before) .args .place) ((c .before .before .before .before .before .before .before .before .before .before .before .before .before .before .before .fault-number) .result) ((c .before .before .before .before .before .before .before .before .before .before .before .before .before .before .before .fault-number) .ensures))
           (put-then (put-then ((c .before .before .before .before .before .before .before .before .before .before .before .before .put-field) .ensures .put) ((c .before .before .before .before .before .before .before .put-field2) .ensures .put) (omega arith)) ((c .before .before .put-word) .ensures) (omega arith));
       most = omega arith;
     }
@@ -43,8 +43,8 @@ pub put-refused-spec : {M : Type 1} → statement M
 put-refused-spec =
     tie.close
     (tie.spec
-    slice-aggregate-put-field
     fault-number-requires
+    slice-aggregate-put-field
     put-field-requires
     slice-aggregate-put-field-2
     put-field-requires-2
