@@ -1,15 +1,15 @@
 // 23: the contents, sequences aside.
-use crate::ENTRY;
-use crate::HEAD;
 use crate::Place;
-use crate::ROW;
 use crate::head::documents;
 use crate::head::revisions;
 use octets::number::get2;
 use octets::number::get4;
 use octets::order::all_zero;
 use octets::order::order_bytes;
+use rules::ENTRY;
+use rules::HEAD;
 use rules::Order;
+use rules::ROW;
 ghost use mathlib.Core.Path.{_≡_};
 ghost use mathlib.Core.Option.{none};
 ghost use Prim.Native.Nat.{ℕ, _+_, _*_, _≤_};

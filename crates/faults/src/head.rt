@@ -1,11 +1,11 @@
 // 22: the head.
-use crate::ENTRY;
-use crate::HEAD;
-use crate::ROW;
 use octets::number::get2;
 use octets::number::get4;
 use rules::DOCUMENTS;
+use rules::ENTRY;
+use rules::HEAD;
 use rules::REVISIONS;
+use rules::ROW;
 use rules::Seq;
 ghost use mathlib.Core.Path.{_≡_};
 ghost use Prim.Native.Nat.{ℕ, _≤_};

@@ -8,6 +8,7 @@ use crate::rows::rows_fault;
 use crate::sequence::sequence_fault;
 use octets::number::get2;
 use rules::Fault;
+use rules::HEAD;
 ghost use mathlib.Core.Path.{_≡_};
 ghost use Rattle.rules.specs.Choice.{firstThat};
 ghost use Rattle.rules.specs.Image.{faults};
@@ -25,12 +26,6 @@ enum Place {
     Nowhere,
     At(usize),
 }
-
-const HEAD: usize = 16;
-
-const ENTRY: usize = 44;
-
-const ROW: usize = 48;
 
 // What is wrong with an image, and where.
 pub enum Judged {

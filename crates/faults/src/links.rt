@@ -1,13 +1,13 @@
 // 26: parents that are there, and kinds that fit the children.
-use crate::ENTRY;
-use crate::HEAD;
 use crate::Place;
-use crate::ROW;
 use crate::contents::row_count;
 use crate::head::documents;
 use octets::number::get4;
 use octets::run::get_hash;
+use rules::ENTRY;
+use rules::HEAD;
 use rules::REVISIONS;
+use rules::ROW;
 use rules::RevNumber;
 use rules::Revision;
 use tree::table::Found;

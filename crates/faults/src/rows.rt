@@ -1,8 +1,5 @@
 // 25: each row by itself, and the order of a document's rows.
-use crate::ENTRY;
-use crate::HEAD;
 use crate::Place;
-use crate::ROW;
 use crate::contents::row_count;
 use crate::head::documents;
 use octets::number::get2;
@@ -11,7 +8,10 @@ use octets::number::get8;
 use octets::order::all_zero;
 use octets::order::order_hash_at;
 use octets::run::get_hash;
+use rules::ENTRY;
+use rules::HEAD;
 use rules::Order;
+use rules::ROW;
 ghost use mathlib.Core.Path.{_≡_};
 ghost use mathlib.Core.Bool.{_||_, _&&_, not};
 ghost use mathlib.Core.Option.{none, some};

@@ -1,10 +1,10 @@
 // 24: the sequences.
-use crate::ENTRY;
-use crate::HEAD;
 use crate::Place;
 use crate::head::documents;
 use crate::head::update_sequence;
 use octets::number::get4;
+use rules::ENTRY;
+use rules::HEAD;
 ghost use mathlib.Core.Path.{_≡_};
 ghost use mathlib.Core.Bool.{_||_};
 ghost use Prim.Native.Nat.{ℕ, _+_, _*_, _≤_, _<_, max};

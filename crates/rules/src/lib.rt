@@ -9,6 +9,25 @@ pub const REVISIONS: usize = 512;
 
 pub const PATH_HASHES: usize = 512;
 
+// The parts of an image and of a replica's buffer: the head, a document's entry, a revision's row.
+pub const HEAD: usize = 16;
+
+pub const ENTRY: usize = 44;
+
+pub const ROW: usize = 48;
+
+// Where the head has its counts and the update sequence.
+pub const DOCUMENTS_AT: usize = 2;
+
+pub const REVISIONS_AT: usize = 4;
+
+pub const SEQUENCE_AT: usize = 8;
+
+// Where an entry has its count of rows and its document's sequence.
+pub const COUNT_IN: usize = 34;
+
+pub const OWN_IN: usize = 36;
+
 // A revision's number, from 1 on. It never serves as a sequence.
 pub struct RevNumber(pub u32);
 

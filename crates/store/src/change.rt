@@ -1,12 +1,5 @@
 // Changes of a replica in a buffer. Each leaves the exact bytes of the changed replica.
-use crate::COUNT_IN;
-use crate::DOCUMENTS_AT;
-use crate::ENTRY;
-use crate::OWN_IN;
-use crate::REVISIONS_AT;
-use crate::ROW;
 use crate::ROWS;
-use crate::SEQUENCE_AT;
 use crate::SIZE;
 use crate::read::Body;
 use crate::read::documents_held;
@@ -17,6 +10,13 @@ use octets::number::put4;
 use octets::run::clear;
 use octets::run::copy_in;
 use octets::run::move_up;
+use rules::COUNT_IN;
+use rules::DOCUMENTS_AT;
+use rules::ENTRY;
+use rules::OWN_IN;
+use rules::REVISIONS_AT;
+use rules::ROW;
+use rules::SEQUENCE_AT;
 use rules::Seq;
 use tree::row::Kind;
 use tree::row::Row;

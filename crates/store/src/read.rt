@@ -1,17 +1,17 @@
 // What a replica in a buffer holds.
-use crate::COUNT_IN;
-use crate::DOCUMENTS_AT;
-use crate::ENTRY;
-use crate::HEAD;
-use crate::OWN_IN;
-use crate::REVISIONS_AT;
-use crate::ROW;
 use crate::ROWS;
-use crate::SEQUENCE_AT;
 use octets::number::get2;
 use octets::number::get4;
 use octets::order::order_bytes;
+use rules::COUNT_IN;
+use rules::DOCUMENTS_AT;
+use rules::ENTRY;
+use rules::HEAD;
+use rules::OWN_IN;
 use rules::Order;
+use rules::REVISIONS_AT;
+use rules::ROW;
+use rules::SEQUENCE_AT;
 use rules::Seq;
 use tree::table::Found;
 ghost use mathlib.Core.Path.{_≡_};
