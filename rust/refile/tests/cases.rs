@@ -579,6 +579,66 @@ fn refused_images_leave_the_replica() {
     }
 }
 
+// Shortcuts that look right
+
+#[test]
+fn a_parent_of_zeros_is_known() {
+    let replica = &mut Replica::fresh();
+    assert_eq!(write(replica, 2, &[0x91], Live(8)), Ok(Changed));
+    assert_eq!(write(replica, 2, &[0x91, 0x00], Live(8)), Ok(Changed));
+    let live = leaf(2, 0x91, Live(8));
+    shows(replica, 2, &[live], live);
+    answers(replica, 2, &path(&[0x91, 0x00]), |replica, out| {
+        replica.path_into(LOT, revision(2, 0x91), out)
+    });
+    refused(4, replica, |r| write(r, 2, &[0x91, 0x20], Live(8)));
+    assert!(Replica::from_image(&replica.image()).as_ref() == Ok(replica));
+}
+
+#[test]
+fn a_crossed_parent_is_seen_wherever_it_is() {
+    // 3-05 has the parent 2-91; 2-4c and 1-20, below it in these paths, are known and fit.
+    let replica = &mut lot();
+    refused(4, replica, |r| write(r, 3, &[0x05, 0x4c, 0x20], Deleted));
+    refused(4, replica, |r| {
+        write(r, 4, &[0x06, 0x05, 0x4c, 0x20], Live(1))
+    });
+    refused(4, replica, |r| write(r, 4, &[0x06, 0x05, 0x4c], Live(1)));
+}
+
+#[test]
+fn hashes_compare_first_byte_first() {
+    let mut low = [0xff; 16];
+    low[0] = 0x01;
+    let mut high = [0x00; 16];
+    high[0] = 0x02;
+    let mut higher = high;
+    higher[15] = 0x01;
+    let replica = &mut Replica::fresh();
+    for (hash, label) in [(high, 1), (higher, 2), (low, 3)] {
+        assert_eq!(write_to(replica, LOT, 5, &hash, Live(label)), Ok(Changed));
+    }
+    let leaves = replica.leaves(LOT).expect("the document is there");
+    let hashes: Vec<Hash> = leaves.iter().map(|leaf| leaf.revision.hash).collect();
+    assert_eq!(hashes, [higher, high, low]);
+    let winner = replica.winner(LOT).expect("the document is there");
+    assert_eq!(winner.revision, Revision::new(5, higher));
+}
+
+#[test]
+fn a_deleted_leaf_may_be_edited() {
+    let replica = &mut lot();
+    let deleted = Some(revision(3, 0x05));
+    let number = replica.edit(LOT, hash(0x06), Live(0), deleted);
+    assert_eq!(number, Ok(RevisionNumber(4)));
+    let (live_06, live_4c) = (leaf(4, 0x06, Live(0)), leaf(2, 0x4c, Live(9)));
+    shows(replica, 5, &[live_06, live_4c], live_06);
+    // Label 0 is an ordinary label, and no deletion.
+    let path = [0x06, 0x05, 0x91, 0x20];
+    assert_eq!(write(replica, 4, &path, Live(0)), Ok(Unchanged));
+    refused(5, replica, |r| write(r, 4, &path, Deleted));
+}
+
 // The order of refusals
 
 /// 32 documents, 512 revisions, and no sequence left. In "lot" 2-4c has the parent 1-20, and 3-70,
