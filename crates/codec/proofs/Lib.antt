@@ -1,0 +1,2 @@
+-- Laws of loading and saving.
+pub mod MoveLaws

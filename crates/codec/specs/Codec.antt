@@ -1,0 +1,62 @@
+-- What loading leaves in a buffer, and entries that get other places.
+use mathlib.Core.Path.{_≡_}
+use mathlib.Core.List.{List, [], _++_}
+use mathlib.Core.Option.{Option, none, some}
+use Prim.Native.Nat.{ℕ, zero, suc, _+_, _*_, _≤_}
+use lib.ListN.{length}
+use Rattle.rules.specs.declared.Fault.{Fault}
+use Rattle.rules.specs.declared.Loaded.{Loaded}
+use Rattle.rules.specs.declared.Loaded.the-variants.{Accepted, Refused}
+use Rattle.rules.specs.Bytes.{be, value, part}
+use Rattle.rules.specs.Choice.{firstThat}
+use Rattle.rules.specs.Image.{faults, replicaIn, load, headSize, entrySize, rowSize, totalLength}
+use Rattle.rules.specs.Outcome.{Does}
+use Rattle.rules.specs.Replica.{Replica, revisionsHeld}
+use Rattle.rules.specs.Room.{documentsMost}
+use Rattle.store.specs.Storage.{storeSize, stored, replicaOf, IsStored}
+
+-- ---- entries
+
+-- n entries from `at` on, each with its place put anew: the first has `place`, and each row moves the next on by `step`
+unfoldable pub moved : ℕ → ℕ → ℕ → ℕ → List ℕ → List ℕ
+moved step place zero at s = []
+moved step place (suc n) at s =
+    (part at 40 s ++ be 4 place) ++ moved step (place + step * value (part (at + 34) 2 s)) n (at + entrySize) s
+
+-- d entries have room in both, and no place is too large for its four bytes
+pub record CanMove (d first step : ℕ) (dst src : List ℕ) : Type 0 where
+  pub most : d ≤ documentsMost
+  pub room : headSize + entrySize * d ≤ length dst
+  pub there : headSize + entrySize * d ≤ length src
+  pub low : first ≤ headSize + entrySize * documentsMost
+  pub short : step ≤ rowSize
+
+-- ---- loading
+
+pub record CanTake (b s : List ℕ) : Type 0 where
+  pub size : length b ≡ storeSize
+  pub fine : firstThat (faults s) ≡ none
+
+-- "A failed load leaves the former replica": to the last byte
+abbrev pub loadBytes : List ℕ → List ℕ → Option (Fault × ℕ) → Loaded × List ℕ
+loadBytes before s none = (Accepted, stored (replicaIn s))
+loadBytes before s (some f) = (Refused (f .0) (f .1), before)
+
+pub record Loads (before s : List ℕ) (answer : Loaded) (after : List ℕ) : Type 0 where
+  -- the answer, and every byte of the buffer
+  pub does : Does (loadBytes before s (firstThat (faults s))) answer after
+  -- so it is what 01 says of the replica
+  pub means : load (replicaOf before) s ≡ (answer, replicaOf after)
+  -- what was accepted is a replica in the buffer, whatever was there
+  pub accepted : answer ≡ Accepted → IsStored after
+  -- and what was a replica in the buffer stays one
+  pub stays : IsStored before → IsStored after
+
+-- ---- saving
+
+-- out has room for the image of the replica in b, which has d documents and r revisions
+pub record CanWrite (b out : List ℕ) (d r : ℕ) : Type 0 where
+  pub replica : IsStored b
+  pub documents : d ≡ length (replicaOf b .documents)
+  pub revisions : r ≡ revisionsHeld (replicaOf b .documents)
+  pub room : totalLength d r ≤ length out

@@ -1,0 +1,110 @@
+// Codec: loading a stored image into a buffer, and saving the replica in a buffer as its image.
+// Head, entries and rows are copied as bytes: only the places of the entries differ between an image
+// and a buffer. It uses the crates rules, octets, store and faults, and the laws of the crate images.
+use faults::Judged;
+use faults::fault;
+use octets::number::get2;
+use octets::number::put2;
+use octets::number::put4;
+use octets::run::clear;
+use octets::run::copy_in;
+use rules::Answered;
+use rules::COUNT_IN;
+use rules::DOCUMENTS_AT;
+use rules::ENTRY;
+use rules::HEAD;
+use rules::Loaded;
+use rules::ROW;
+use rules::Refusal;
+use store::ROWS;
+use store::SIZE;
+use store::read::documents_held;
+use store::read::revisions_held;
+ghost use mathlib.Core.Path.{_≡_};
+ghost use Prim.Native.Nat.{ℕ, _+_, _*_, _≤_};
+ghost use lib.ListN.{length};
+ghost use Rattle.rules.specs.Image.{image, save, replicaIn, headSize, entrySize, rowSize};
+ghost use Rattle.rules.specs.Outcome.{Does};
+ghost use Rattle.octets.specs.Splice.{splice};
+ghost use Rattle.store.specs.Storage.{storeSize, stored, replicaOf, IsStored};
+ghost use Rattle.codec.specs.Codec.{moved, CanMove, CanTake, CanWrite, Loads};
+
+// Where an image's head has its total length, and an entry the place of its first row. A buffer has
+// neither.
+const TOTAL_AT: usize = 12;
+
+const PLACE_IN: usize = 40;
+
+// Copies d entries from src to dst. The first gets `first` as its place, and each row of an entry moves
+// the next place on by `step`.
+fn copy_entries(dst: &mut [u8], src: &[u8], d: usize, first: usize, step: usize)
+    requires { ⌜ CanMove d first step (now dst) (now src) ⌝ }
+    ensures { λ _. ⌜ now (dst .exit) ≡ splice (now (dst .entry)) headSize (moved step first d headSize (now (src .entry))) ⌝ }
+{
+    let mut place = first;
+    let mut i = 0;
+    while i < d {
+        let at = HEAD + ENTRY * i;
+        let e = at + PLACE_IN;
+        copy_in(dst, at, &src[at..e]);
+        put4(dst, e, place as u32);
+        place += step * get2(src, at + COUNT_IN);
+        i += 1;
+    }
+}
+
+// Lays an image that has no fault out in the buffer.
+fn take_in(b: &mut [u8], image: &[u8])
+    requires { ⌜ CanTake (now b) (now image) ⌝ }
+    ensures { λ _. ⌜ now (b .exit) ≡ stored (replicaIn (now (image .entry))) ⌝ }
+{
+    let d = get2(image, DOCUMENTS_AT);
+    let rows = HEAD + ENTRY * d;
+    clear(b, 0, SIZE);
+    copy_in(b, DOCUMENTS_AT, &image[DOCUMENTS_AT..TOTAL_AT]);
+    copy_entries(b, image, d, 0, 0);
+    copy_in(b, ROWS, &image[rows..]);
+}
+
+// Makes the buffer the replica of an image, or leaves it as it was.
+pub fn load(b: &mut [u8], image: &[u8]) -> Loaded
+    requires { ⌜ length (now b) ≡ storeSize ⌝ }
+    ensures { λ r. ⌜ Loads (now (b .entry)) (now (image .entry)) r (now (b .exit)) ⌝ }
+{
+    match fault(image) {
+        Judged::Bad(f, p) => Loaded::Refused(f, p),
+        Judged::Fine => {
+            take_in(b, image);
+            Loaded::Accepted
+        }
+    }
+}
+
+// Writes the image of a replica with d documents and r revisions.
+fn write_image(b: &[u8], out: &mut [u8], d: usize, r: usize)
+    requires { ⌜ CanWrite (now b) (now out) d r ⌝ }
+    ensures { λ _. ⌜ now (out .exit) ≡ splice (now (out .entry)) 0 (image (replicaOf (now (b .entry)))) ⌝ }
+{
+    let rows = HEAD + ENTRY * d;
+    let e = ROWS + ROW * r;
+    put2(out, 0, 1);
+    copy_in(out, DOCUMENTS_AT, &b[DOCUMENTS_AT..TOTAL_AT]);
+    put4(out, TOTAL_AT, (rows + ROW * r) as u32);
+    copy_entries(out, b, d, rows, ROW);
+    copy_in(out, rows, &b[ROWS..e]);
+}
+
+// Writes the image of the replica in the buffer, and answers its length.
+pub fn save(b: &[u8], out: &mut [u8]) -> Answered
+    requires { ⌜ IsStored (now b) ⌝ }
+    ensures { λ r. ⌜ Does (save (replicaOf (now (b .entry))) (now (out .entry))) r (now (out .exit)) ⌝ }
+{
+    let d = documents_held(b);
+    let r = revisions_held(b);
+    let total = HEAD + ENTRY * d + ROW * r;
+    if out.len() < total {
+        return Answered::Refused(Refusal::ShortBuffer);
+    }
+    write_image(b, out, d, r);
+    Answered::Count(total)
+}
