@@ -53,6 +53,18 @@ moved-next s src step place n m p q rows e f r h l =
     ap (λ (k : ℕ). splice (splice s p (X ++ P)) k M) (sym to) ∙ splice-splice s p (X ++ P) M (omega arith) in
     ap (splice s p) is ∙ (sym all ∙ ap (λ (t : List ℕ). splice t q M) (sym one))
 
+-- the same, as the code writes it: t and u are what the first write and the second leave
+pub moved-on : (s src t u : List ℕ) (step place n m p e q rows : ℕ) → n ≡ suc m → e ≡ p + 40 → q ≡ p + 44 → rows ≡ value (part (p + 34) 2 src)
+    → p + n * 44 ≤ length s → p + n * 44 ≤ length src → t ≡ splice s p (take (e - p) (drop p src)) → u ≡ splice t e (be 4 place)
+    → splice s p (moved step place n p src) ≡ splice u q (moved step (place + step * rows) m q src)
+unfolding part
+moved-on s src t u step place n m p e q rows k f g r h l x y =
+    let z : e - p ≡ 40 = omega arith in
+    let is : u ≡ splice (splice s p (part p 40 src)) (p + 40) (be 4 place) =
+    y ∙ ap₂ (λ (w : List ℕ) (j : ℕ). splice w j (be 4 place)) (x ∙ ap (λ (j : ℕ). splice s p (take j (drop p src))) z) f in
+    moved-next s src step place n m p q rows k g r h l
+    ∙ ap (λ (w : List ℕ). splice w q (moved step (place + step * rows) m q src)) (sym is)
+
 pub moved-none : (s src : List ℕ) (step place n p : ℕ) → n ≡ 0 → splice s p (moved step place n p src) ≡ s
 unfolding moved
 moved-none s src step place n p e = ap (λ (k : ℕ). splice s p (moved step place k p src)) e ∙ splice-none s p
