@@ -1,2 +1,3 @@
 -- Laws of loading and saving.
 pub mod MoveLaws
+pub mod SaveLaws

@@ -7,20 +7,21 @@ use native.Mathlib.Omega.{arith}
 use lib.ListN.{length, take, drop, replicate, length-append, length-drop, length-replicate}
 use lib.Seq.{take-append-le, drop-append-le}
 use Rattle.rules.specs.Bytes.{be, value, part, join}
-use Rattle.rules.specs.Image.{entryBytes, contentsBytes, entryOf, rowSize, entrySize}
+use Rattle.rules.specs.Image.{entryBytes, contentsBytes, rowBytes, bodyBytes, entryOf, rowSize, entrySize}
 use Rattle.rules.specs.Map.{Map}
 use Rattle.rules.specs.Replica.{Id, Document, revisionsHeld}
 use Rattle.rules.specs.Room.{idMost, revisionsMost, last}
-use Rattle.rules.proofs.ByteLaws.{length-be, length-part, part-front, part-past}
+use Rattle.rules.proofs.ByteLaws.{length-be, length-part, part-front, part-past, join-append}
 use Rattle.octets.specs.Splice.{splice}
 use Rattle.octets.proofs.SpliceLaws.{splice-none, splice-splice}
-use Rattle.store.specs.Storage.{All, FitsDocument, storedEntries}
+use Rattle.store.specs.Storage.{All, FitsDocument, storedEntries, rowsIn, storedRows}
 use Rattle.store.proofs.RoundLaws.{entry-fields}
+use Rattle.store.proofs.StoredLaws.{map-append}
 use Rattle.codec.specs.Codec.{moved}
 
 -- ---- as the code writes them
 
-length-moved : (step place n at : ℕ) (s : List ℕ) → at + n * 44 ≤ length s → length (moved step place n at s) ≡ n * 44
+pub length-moved : (step place n at : ℕ) (s : List ℕ) → at + n * 44 ≤ length s → length (moved step place n at s) ≡ n * 44
 unfolding moved
 length-moved step place zero at s h = omega arith
 length-moved step place (suc n) at s h =
@@ -138,3 +139,13 @@ moved-entries step place old was (d ∷ ds) A rest at n f h =
     ∙ ap₂ (λ (l m : List ℕ). l ++ m) (sym (entry-front place d))
     (ap (moved step (place + step * L) (length ds) (at + 44)) c
     ∙ moved-entries step (place + step * L) old (was + old * L) ds (A ++ entryBytes was d) rest (at + 44) w (f .1) (omega arith))
+
+-- ---- rows
+
+pub body-rows : (ds : Map Id Document) → bodyBytes ds ≡ join (storedRows ds)
+unfolding bodyBytes storedRows rowsIn join
+body-rows [] = refl
+body-rows (d ∷ ds) =
+    ap (λ (l : List ℕ). join (map rowBytes (d .1 .tree)) ++ l) (body-rows ds)
+    ∙ (sym (join-append (map rowBytes (d .1 .tree)) (map rowBytes (rowsIn ds)))
+    ∙ ap join (sym (map-append rowBytes (d .1 .tree) (rowsIn ds))))

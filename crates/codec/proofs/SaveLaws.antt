@@ -1,0 +1,135 @@
+-- A replica in a buffer, written as its image. Assumes nothing.
+use mathlib.Core.Path.{_≡_, refl, sym, ap, _∙_}
+use mathlib.Core.List.{List, _++_, append-assoc}
+use Prim.Native.Nat.{ℕ, _+_, _-_, _*_, _≤_, _<_}
+use native.Mathlib.Nat.{zero-add}
+use native.Mathlib.Omega.{arith}
+use borrow.Author.Tests.{lt-ltb, le-ltb}
+use lib.ListN.{length, take, drop, replicate}
+use lib.Seq.{take-at}
+use Rattle.rules.specs.declared.Answered.the-variants.{Count, Refused}
+use Rattle.rules.specs.declared.Refusal.the-variants.{ShortBuffer}
+use Rattle.rules.specs.Bytes.{be, part, join}
+use Rattle.rules.specs.Choice.{firstThat}
+use Rattle.rules.specs.Image.{headBytes, contentsBytes, bodyBytes, image, save, totalLength}
+use Rattle.rules.specs.Map.{Map}
+use Rattle.rules.specs.Outcome.{Does}
+use Rattle.rules.specs.Read.{front, shortBuffer, reads}
+use Rattle.rules.specs.Replica.{Id, Document, Replica, revisionsHeld}
+use Rattle.rules.specs.Room.{documentsMost, revisionsMost}
+use Rattle.rules.proofs.ByteLaws.{length-be, length-part}
+use Rattle.images.proofs.Theorems.{image-length}
+use Rattle.octets.specs.Splice.{splice}
+use Rattle.octets.proofs.SpliceLaws.{five}
+use Rattle.store.specs.Storage.{contentsRoom, rowsRoom, storeSize, filled, storedHead, storedEntries, storedRows, stored, replicaOf, Storable, IsStored}
+use Rattle.store.proofs.FitLaws.{stored-laid}
+use Rattle.store.proofs.StoredLaws.{length-head, size-rows, size-laid, past-contents}
+use Rattle.codec.specs.Codec.{moved, CanWrite}
+use Rattle.codec.proofs.MoveLaws.{entriesWith, length-moved, contents-entries, stored-entries, moved-entries, body-rows}
+
+-- ---- the parts of a buffer
+
+module _ (r : Replica) (h : Storable r) where
+  abbrev ds : Map Id Document
+  ds = r .documents
+
+  abbrev count : ℕ
+  count = length (r .documents)
+
+  abbrev held : ℕ
+  held = revisionsHeld (r .documents)
+
+  abbrev head : List ℕ
+  head = storedHead count held (r .seq .0)
+
+  entries-saved : (place : ℕ) → moved 48 place count 16 (stored r) ≡ contentsBytes place ds
+  unfolding stored filled
+  entries-saved place =
+      let E : List ℕ = join (storedEntries ds) in
+      let Z : List ℕ = replicate (contentsRoom - length E) 0 in
+      let R : List ℕ = filled rowsRoom (join (storedRows ds)) in
+      let s : (E ++ Z) ++ R ≡ entriesWith 0 0 ds ++ (Z ++ R) = append-assoc E Z R ∙ ap (λ (l : List ℕ). l ++ (Z ++ R)) (stored-entries ds) in
+      ap (λ (l : List ℕ). moved 48 place count 16 (head ++ l)) s
+      ∙ (moved-entries 48 place 0 0 ds head (Z ++ R) 16 (length-head count held (r .seq .0)) (h .documents) (h .revisions-most)
+      ∙ sym (contents-entries place ds))
+
+  rows-saved : (k : ℕ) → k ≡ 48 * held → take k (drop 1424 (stored r)) ≡ bodyBytes ds
+  unfolding filled
+  rows-saved k e =
+      let w : length (join (storedRows ds)) ≡ k = size-rows r h ∙ omega arith in
+      ap (take k) (past-contents r h) ∙ (take-at (join (storedRows ds)) _ k w ∙ sym (body-rows ds))
+
+  -- the head has its edition and its total length put anew
+  image-saved : be 2 1 ++ (part 2 10 (stored r) ++ (be 4 (totalLength count held) ++ (contentsBytes (16 + 44 * count) ds ++ bodyBytes ds))) ≡ image r
+  unfolding image stored headBytes storedHead be part
+  image-saved = refl
+
+-- ---- how the code writes it
+
+-- what is known of the lengths
+pub record Fitting (b out : List ℕ) (d r : ℕ) : Type 0 where
+  pub size : length b ≡ storeSize
+  pub documents : d ≤ documentsMost
+  pub revisions : r ≤ revisionsMost
+  pub room : totalLength d r ≤ length out
+
+pub fitting : (b out : List ℕ) (d r : ℕ) → CanWrite b out d r → Fitting b out d r
+fitting b out d r w = record {
+  size = size-laid b (stored-laid b (w .replica));
+  documents = omega (arith, w .documents, w .replica .replica .documents-most);
+  revisions = omega (arith, w .revisions, w .replica .replica .revisions-most);
+  room = w .room;
+}
+
+-- o1 to o5 are what the writes leave, one after the other
+pub image-written : (b o o1 o2 o3 o4 o5 : List ℕ) (d r rows e t : ℕ) → CanWrite b o d r → rows ≡ 16 + 44 * d → e ≡ 1424 + 48 * r → t ≡ rows + 48 * r
+    → o1 ≡ splice o 0 (be 2 1) → o2 ≡ splice o1 2 (take 10 (drop 2 b)) → o3 ≡ splice o2 12 (be 4 t)
+    → o4 ≡ splice o3 16 (moved 48 rows d 16 b) → o5 ≡ splice o4 rows (take (e - 1424) (drop 1424 b))
+    → o5 ≡ splice o 0 (image (replicaOf b))
+unfolding part
+image-written b o o1 o2 o3 o4 o5 d r rows e t w p q u e1 e2 e3 e4 e5 =
+    let f = fitting b o d r w in
+    let l = stored-laid b (w .replica) in
+    let R : Replica = replicaOf b in
+    let D : ℕ = length (R .documents) in
+    let N : ℕ = revisionsHeld (R .documents) in
+    let a : rows ≡ 16 + 44 * D = p ∙ ap (λ (k : ℕ). 16 + 44 * k) (w .documents) in
+    let z : t ≡ totalLength D N = omega (arith, w .revisions) in
+    let X : List ℕ = part 2 10 b in
+    let M : List ℕ = moved 48 rows d 16 b in
+    let B : List ℕ = take (e - 1424) (drop 1424 b) in
+    let x : X ≡ part 2 10 (stored R) = ap (part 2 10) (l .same) in
+    let m : M ≡ contentsBytes (16 + 44 * D) (R .documents) =
+    ap (λ (k : ℕ). moved 48 k d 16 b) a
+    ∙ (ap (λ (k : ℕ). moved 48 (16 + 44 * D) k 16 b) (w .documents)
+    ∙ (ap (moved 48 (16 + 44 * D) D 16) (l .same) ∙ entries-saved R (l .fits) (16 + 44 * D))) in
+    let y : B ≡ bodyBytes (R .documents) =
+    ap (λ (s : List ℕ). take (e - 1424) (drop 1424 s)) (l .same) ∙ rows-saved R (l .fits) (e - 1424) (omega (arith, w .revisions)) in
+    let lx : length X ≡ 10 = length-part 2 10 b (omega arith) in
+    let lm : length M ≡ d * 44 = length-moved 48 rows d 16 b (omega arith) in
+    let lb : length B ≡ 48 * r = length-part 1424 (e - 1424) b (omega arith) ∙ omega arith in
+    let whole : be 2 1 ++ (X ++ (be 4 t ++ (M ++ B))) ≡ image R = cc (image-saved R (l .fits)) in
+    let is : o5 ≡ splice (splice (splice (splice (splice o 0 (be 2 1)) 2 X) 12 (be 4 t)) 16 M) rows B = cc in
+    is
+    ∙ (five o (be 2 1) X (be 4 t) M B 0 2 12 16 rows (omega (arith, length-be 2 1)) (omega arith) (ap (λ (k : ℕ). 12 + k) (length-be 4 t)) (omega arith) (omega arith)
+    ∙ ap (splice o 0) whole)
+
+-- ---- the answer
+
+pub saved-length : (b : List ℕ) (d r t : ℕ) → IsStored b → d ≡ length (replicaOf b .documents) → r ≡ revisionsHeld (replicaOf b .documents) → t ≡ totalLength d r
+    → t ≡ length (image (replicaOf b))
+saved-length b d r t i p q e = let l = image-length (replicaOf b) (i .replica) in omega arith
+
+module _ (r : Replica) (out : List ℕ) (n : ℕ) (e : n ≡ length (image r)) where
+  pub save-short : length out < n → Does (save r out) (Refused ShortBuffer) out
+  unfolding save reads shortBuffer firstThat
+  save-short h =
+      let k : length out < length (image r) = omega arith in
+      rw (lt-ltb (length out) (length (image r)) k) (record { answers = refl; leaves = refl })
+
+  pub save-written : (after : List ℕ) → n ≤ length out → after ≡ splice out 0 (image r) → Does (save r out) (Count n) after
+  unfolding save reads shortBuffer firstThat front splice
+  save-written after h w =
+      let k : length (image r) ≤ length out = omega arith in
+      rw (le-ltb (length out) (length (image r)) k)
+      (record { answers = ap Count e; leaves = w ∙ ap (λ (j : ℕ). image r ++ drop j out) (zero-add (length (image r))) })
