@@ -1,3 +1,4 @@
--- Laws of loading and saving.
+-- Laws of loading and saving, and that each public function has one outcome.
 pub mod MoveLaws
 pub mod SaveLaws
+pub mod Outcomes
