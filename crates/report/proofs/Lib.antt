@@ -6,3 +6,4 @@ pub mod StandingLaws
 pub mod FaultLaws
 pub mod AnswerLaws
 pub mod JudgedLaws
+pub mod Outcomes

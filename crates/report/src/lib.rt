@@ -1,8 +1,9 @@
 // Report: what the check program prints for the bytes of an image.
-// It takes every input of every length. It uses the crates rules, octets, tree, store and text, and the
-// laws of the crates images and union.
+// It takes every input of every length. It uses the crates rules, octets, tree, store, text and
+// codec, and the laws of the crates images and union.
 mod line;
 
+use codec::load;
 use line::put_refused;
 use line::put_replica;
 use octets::run::copy_in;
@@ -10,11 +11,13 @@ use rules::Answered;
 use rules::DOCUMENTS;
 use rules::Loaded;
 use rules::Refusal;
+use store::SIZE;
 ghost use mathlib.Core.List.{[]};
 ghost use Prim.Native.Nat.{_≤_};
 ghost use lib.ListN.{length, take};
 ghost use Rattle.rules.specs.Outcome.{Does};
 ghost use Rattle.rules.specs.Read.{reads};
+ghost use Rattle.rules.specs.Report.{report, readReport};
 ghost use Rattle.report.specs.Lines.{reportMost, PutWithin};
 ghost use Rattle.report.specs.Loaded.{loadedText, CanPutLoaded};
 
@@ -42,4 +45,22 @@ fn hand_over(s: &[u8], n: usize, out: &mut [u8]) -> Answered
     }
     copy_in(out, 0, &s[..n]);
     Answered::Count(n)
+}
+
+// Writes the report of an image at the front of a buffer that holds every report.
+pub fn put_report(image: &[u8], out: &mut [u8; REPORT_MOST]) -> usize
+    ensures { λ r. ⌜ PutWithin reportMost (report (now (image .entry))) (now (out .entry)) 0 r (now (out .exit)) ⌝ }
+{
+    let mut b = [0u8; SIZE];
+    let loaded = load(&mut b, image);
+    put_loaded(loaded, &b, out)
+}
+
+// The same for a buffer of any length: 14 where the report doesn't fit.
+pub fn report(image: &[u8], out: &mut [u8]) -> Answered
+    ensures { λ r. ⌜ Does (readReport (now (image .entry)) (now (out .entry))) r (now (out .exit)) ⌝ }
+{
+    let mut t = [0u8; REPORT_MOST];
+    let n = put_report(image, &mut t);
+    hand_over(&t, n, out)
 }

@@ -1,0 +1,2 @@
+-- What the promises of this program's functions cite.
+pub mod Input
