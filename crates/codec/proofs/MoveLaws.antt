@@ -1,16 +1,16 @@
 -- Entries that get other places. Assumes nothing.
 use mathlib.Core.Path.{_≡_, refl, sym, ap, ap₂, _∙_}
 use mathlib.Core.List.{List, [], _∷_, _++_, map, append-assoc}
-use Prim.Native.Nat.{ℕ, zero, suc, _+_, _-_, _*_, _≤_, _<_}
-use native.Mathlib.Nat.{add-zero, add-assoc, mul-le-mul-right, mul-le-mul-left}
+use Prim.Native.Nat.{ℕ, zero, suc, _+_, _-_, _*_, _≤_}
+use native.Mathlib.Nat.{add-zero}
 use native.Mathlib.Omega.{arith}
 use lib.ListN.{length, take, drop, replicate, length-append, length-drop, length-replicate}
 use lib.Seq.{take-append-le, drop-append-le}
 use Rattle.rules.specs.Bytes.{be, value, part, join}
-use Rattle.rules.specs.Image.{entryBytes, contentsBytes, rowBytes, bodyBytes, entryOf, rowSize, entrySize}
+use Rattle.rules.specs.Image.{entryBytes, contentsBytes, rowBytes, bodyBytes, entryOf}
 use Rattle.rules.specs.Map.{Map}
 use Rattle.rules.specs.Replica.{Id, Document, revisionsHeld}
-use Rattle.rules.specs.Room.{idMost, revisionsMost, last}
+use Rattle.rules.specs.Room.{revisionsMost}
 use Rattle.rules.proofs.ByteLaws.{length-be, length-part, part-front, part-past, join-append}
 use Rattle.octets.specs.Splice.{splice}
 use Rattle.octets.proofs.SpliceLaws.{splice-none, splice-splice}

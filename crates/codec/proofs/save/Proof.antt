@@ -27,14 +27,14 @@ add-total-2 c = search needs
 
 returns : tie.Need-returns
 returns c =
-    save-short _ _ _ (saved-length _ _ _ _ ((c .before .before .before .before .before) .pre) ((c .before .before .documents-held) .ensures) ((c .before .revisions-held) .ensures) refl) ((c .if1) .taken)
+    save-short _ _ _ (saved-length _ _ _ _ ((c .before .before .before .before .before) .pre) ((c .before .before .documents-held) .ensures) ((c .before .revisions-held) .ensures) refl) (omega (arith, (c .if1) .taken))
 
 write-image-requires : tie.Need-write-image-requires
 write-image-requires c κs = record {
   replica = (c .before .before .before .before .before .before) .pre;
   documents = (c .before .before .before .documents-held) .ensures;
   revisions = (c .before .before .revisions-held) .ensures;
-  room = (c .before .if1) .left;
+  room = omega (arith, (c .before .if1) .left);
 }
 
 same-length : tie.Need-same-length
@@ -42,7 +42,7 @@ same-length c = search needs
 
 returns-2 : tie.Need-returns-2
 returns-2 c =
-    save-written _ _ _ (saved-length _ _ _ _ ((c .before .before .before .before .before .before .before .before .before) .pre) ((c .before .before .before .before .before .before .documents-held) .ensures) ((c .before .before .before .before .before .revisions-held) .ensures) refl) _ ((c .before .before .before .before .if1) .left) ((c .before .before .write-image) .ensures)
+    save-written _ _ _ (saved-length _ _ _ _ ((c .before .before .before .before .before .before .before .before .before) .pre) ((c .before .before .before .before .before .before .documents-held) .ensures) ((c .before .before .before .before .before .revisions-held) .ensures) refl) _ (omega (arith, (c .before .before .before .before .if1) .left)) ((c .before .before .write-image) .ensures)
 
 pub save-spec : {M : Type 1} → statement M
 save-spec =
