@@ -3,3 +3,4 @@ pub mod MoveLaws
 pub mod TakeLaws
 pub mod SaveLaws
 pub mod Outcomes
+pub mod RoundTrip

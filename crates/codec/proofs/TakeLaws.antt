@@ -1,6 +1,6 @@
 -- An image that has no fault, laid out in a buffer of zeros. Assumes nothing.
 use mathlib.Core.Path.{_≡_, refl, sym, ap, ap₂, _∙_, subst}
-use mathlib.Core.List.{List, [], _∷_, _++_, map, append-assoc}
+use mathlib.Core.List.{List, [], _∷_, _++_, append-assoc}
 use mathlib.Core.Option.{none, some}
 use Prim.Native.Nat.{ℕ, zero, suc, _+_, _-_, _*_, _≤_, _<_}
 use native.Mathlib.Nat.{add-zero, zero-add}
@@ -12,20 +12,18 @@ use Rattle.rules.specs.declared.Loaded.{Loaded}
 use Rattle.rules.specs.declared.Loaded.the-variants.{Accepted, Refused}
 use Rattle.rules.specs.Bytes.{be, value, valueFrom, part, join, Bytes}
 use Rattle.rules.specs.Choice.{firstThat}
-use Rattle.rules.specs.Image.{headBytes, contentsBytes, bodyBytes, rowBytes, image, faults, replicaIn, headSize, entrySize, rowSize}
+use Rattle.rules.specs.Image.{headBytes, contentsBytes, bodyBytes, image, faults, replicaIn}
 use Rattle.rules.specs.Map.{Map}
-use Rattle.rules.specs.Outcome.{Does}
 use Rattle.rules.specs.Replica.{Id, Document, Replica, revisionsHeld, IsReplica}
 use Rattle.rules.specs.Room.{documentsMost, revisionsMost}
-use Rattle.rules.proofs.ByteLaws.{join-append}
 use Rattle.images.proofs.Theorems.{loads, refuses, loaded-is-replica, image-length}
 use Rattle.octets.specs.Splice.{splice}
 use Rattle.octets.proofs.SpliceLaws.{splice-whole, splice-past, splice-in}
-use Rattle.store.specs.Storage.{contentsRoom, rowsRoom, rowsPlace, storeSize, filled, storedHead, storedEntries, rowsIn, storedRows, stored, replicaOf, Storable, IsStored}
-use Rattle.store.proofs.StoredLaws.{map-append, length-head, length-filled, size-entries, size-rows, stored-back}
+use Rattle.store.specs.Storage.{contentsRoom, rowsRoom, rowsPlace, storeSize, filled, storedHead, storedEntries, storedRows, stored, replicaOf, Storable, IsStored}
+use Rattle.store.proofs.StoredLaws.{length-head, length-filled, size-entries, size-rows, stored-back}
 use Rattle.store.proofs.FitLaws.{replica-fits}
-use Rattle.codec.specs.Codec.{moved, loadBytes, Loads}
-use Rattle.codec.proofs.MoveLaws.{contents-entries, stored-entries, moved-entries}
+use Rattle.codec.specs.Codec.{moved, Loads}
+use Rattle.codec.proofs.MoveLaws.{contents-entries, stored-entries, moved-entries, body-rows}
 
 pub bytes-all : (s : List ℕ) → ((i : ℕ) → getD s i 0 < 256) → Bytes s
 bytes-all [] h = tt
@@ -80,14 +78,6 @@ module _ (d r q : ℕ) (T : List ℕ) where
 length-headBytes : (d r q : ℕ) → length (headBytes d r q) ≡ 16
 unfolding headBytes be
 length-headBytes d r q = refl
-
-body-rows : (ds : Map Id Document) → bodyBytes ds ≡ join (storedRows ds)
-unfolding bodyBytes storedRows rowsIn join
-body-rows [] = refl
-body-rows (d ∷ ds) =
-    ap (λ (l : List ℕ). join (map rowBytes (d .1 .tree)) ++ l) (body-rows ds)
-    ∙ (sym (join-append (map rowBytes (d .1 .tree)) (map rowBytes (rowsIn ds)))
-    ∙ ap join (sym (map-append rowBytes (d .1 .tree) (rowsIn ds))))
 
 module _ (r : Replica) (i : IsReplica r) where
   abbrev ds : Map Id Document
