@@ -54,12 +54,6 @@ pub fn ids() -> Vec<&'static [u8]> {
     (0..DOCUMENTS).map(|i| &*id(i).leak()).collect()
 }
 
-pub fn shuffle<T>(random: &mut Random, items: &mut [T]) {
-    for i in (1..items.len()).rev() {
-        items.swap(i, random.below(i + 1));
-    }
-}
-
 fn content(random: &mut Random) -> Content {
     if random.percent(25) {
         Content::Deleted
@@ -96,7 +90,7 @@ pub fn mixed() -> Vec<u8> {
     let ids = ids();
     let mut random = Random::new(32);
     let mut turns: Vec<usize> = (0..REVISIONS).map(|turn| turn % DOCUMENTS).collect();
-    shuffle(&mut random, &mut turns);
+    random.shuffle(&mut turns);
     let mut known: Vec<Vec<Write>> = vec![Vec::new(); DOCUMENTS];
     let mut replica = Baseline::fresh();
     for document in turns {
@@ -161,7 +155,7 @@ pub fn bushes(leaves: usize) -> Bushes {
             ..*root
         };
         let mut layer: Vec<Write> = roots.iter().map(leaf).collect();
-        shuffle(&mut random, &mut layer);
+        random.shuffle(&mut layer);
         layer
     };
     let layers = (0..leaves).map(|_| layer()).collect();

@@ -313,7 +313,7 @@ fn asked(mixed: &[u8]) -> Vec<Vec<u8>> {
     let list = |document: usize| {
         let own_and_next = rows.iter().cycle().skip(16 * document).take(32);
         let mut asked: Vec<&[u8]> = own_and_next.map(|row| &row[..20]).collect();
-        data::shuffle(&mut random, &mut asked);
+        random.shuffle(&mut asked);
         asked.concat()
     };
     (0..DOCUMENTS).map(list).collect()

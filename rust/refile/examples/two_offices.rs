@@ -157,7 +157,7 @@ fn tell_document(replica: &Replica, id: &[u8], out: &mut impl Write) -> io::Resu
 }
 
 /// The image with its update sequence and every document's own sequence set to 0.
-fn without_sequences(image: &[u8]) -> Vec<u8> {
+pub fn without_sequences(image: &[u8]) -> Vec<u8> {
     let mut image = image.to_vec();
     let documents = u16::from_be_bytes([image[2], image[3]]);
     image[8..12].fill(0);
