@@ -59,7 +59,7 @@ deleted-known t s p e = go (winner t) refl e
             (h .0, subst (λ (v : Revision). find orderRev v t ≡ some (h .0)) (some-inj g) (h .1))
         by false g = absurd (none≢some g)
 
-parent-known : (r : Replica) (e : Edit) → IsReplica r → parentRule r e ≡ true → (p : Revision) → parentOf r e ≡ some p → Known (treeOf r (e .id)) p
+pub parent-known : (r : Replica) (e : Edit) → IsReplica r → parentRule r e ≡ true → (p : Revision) → parentOf r e ≡ some p → Known (treeOf r (e .id)) p
 unfolding parentRule parentOf
 parent-known r e k rule p q = go (e .parent) refl rule q
   where

@@ -1,4 +1,4 @@
--- The refusals 4 to 8 from a plan, and what a write or an edit promises.
+-- The refusals 4 to 8 from a plan, and what a write promises.
 use mathlib.Core.Path.{_≡_}
 use mathlib.Core.Bool.{Bool, not, _&&_}
 use mathlib.Core.List.{List, [], _∷_}
@@ -7,13 +7,11 @@ use Prim.Native.Nat.{ℕ, _+_}
 use lib.Dec.{eqb, leb, ltb}
 use lib.ListN.{length}
 use Rattle.rules.specs.declared.Content.{Content}
-use Rattle.rules.specs.declared.Edited.{Edited}
 use Rattle.rules.specs.declared.Refusal.{Refusal}
 use Rattle.rules.specs.declared.Refusal.the-variants.{OtherParent, OtherContent, DocumentsFull, RevisionsFull, SequenceSpent}
 use Rattle.rules.specs.declared.RevNumber.{RevNumber}
 use Rattle.rules.specs.declared.Written.{Written}
 use Rattle.rules.specs.Choice.{firstThat}
-use Rattle.rules.specs.Edit.{Edit, edit}
 use Rattle.rules.specs.Replica.{Id, Replica, revisionsHeld}
 use Rattle.rules.specs.Room.{documentsMost, revisionsMost, last}
 use Rattle.rules.specs.Write.{Write, formRefusals, write}
@@ -56,11 +54,4 @@ pub record Wrote (s : List ℕ) (w : Write) (r : Written) (after : List ℕ) : T
   pub answer : r ≡ write (replicaOf s) w .0
   pub left : after ≡ stored (write (replicaOf s) w .1)
   pub means : replicaOf after ≡ write (replicaOf s) w .1
-  pub is : IsStored after
-
--- what an edit promises
-pub record Edits (s : List ℕ) (e : Edit) (r : Edited) (after : List ℕ) : Type 0 where
-  pub answer : r ≡ edit (replicaOf s) e .0
-  pub left : after ≡ stored (edit (replicaOf s) e .1)
-  pub means : replicaOf after ≡ edit (replicaOf s) e .1
   pub is : IsStored after

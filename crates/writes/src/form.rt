@@ -28,7 +28,7 @@ pub enum Verdict {
 }
 
 // 1: an id that is empty or over 32 bytes.
-pub(crate) fn bad_id(id: &[u8]) -> bool
+pub fn bad_id(id: &[u8]) -> bool
     ensures { λ r. ⌜ r ≡ badId (now (id .entry)) ⌝ }
 {
     if id.len() == 0 {

@@ -1,4 +1,4 @@
-// Writes: the path write and the ordinary edit, over a replica in a lent buffer.
+// Writes: the path write, over a replica in a lent buffer.
 // A read-only pass over the path plans the write and decides every refusal; then it is applied, which
 // cannot fail. So a refused or unchanged write leaves every byte. It uses the crates rules, octets,
 // tree, store and union.
@@ -17,7 +17,7 @@ ghost use Rattle.writes.specs.Judge.{Wrote};
 ghost use Rattle.writes.specs.Path.{writeOf};
 
 mod apply;
-mod form;
+pub mod form;
 mod judge;
 mod path;
 mod plan;

@@ -1,0 +1,21 @@
+-- From the promise alone: every edit leaves a replica, and every other document answers as before. Assumes nothing.
+use mathlib.Core.Path.{_≡_, ap, _∙_}
+use Rattle.rules.specs.Replica.{Id, Replica, documentOf, IsReplica}
+use Rattle.store.specs.Storage.{replicaOf}
+use Rattle.union.proofs.Demand3 as union
+use Rattle.writes.specs.Always.{Always}
+use Rattle.writes.specs.Edit.{editOf}
+use Rattle.edits.proofs.edit.Kinds as edit
+use Rattle.edits.proofs.edit.Reads as edit'
+
+-- "Replicas are only what this tool's calls make .. that each call leaves one is proved."
+pub edit-replica : Always _ edit.ps edit.r edit'.Asked edit'.Learnt (λ κs a s. IsReplica (replicaOf (s .0 .now)))
+edit-replica κs a x s h p = p .is .replica
+
+-- "A write to one document changes no answer about another document's revisions, parents, leaves,
+-- contents, winner or own sequence": nor does an edit, since all that is known of it is the same.
+pub edit-frame : Always _ edit.ps edit.r edit'.Asked edit'.Learnt
+    (λ κs a s. (j : Id) → (j ≡ a .1 .0 .now → ⊥) → documentOf (replicaOf (s .0 .now)) j ≡ documentOf (replicaOf (a .0 .now)) j)
+edit-frame κs a x s h p j n =
+    ap (λ (r : Replica). documentOf r j) (p .means)
+    ∙ union.edit-frame (replicaOf (a .0 .now)) (editOf (a .1 .0 .now) (a .1 .1 .0) (a .1 .1 .1 .0) (a .1 .1 .1 .1 .0) (a .1 .1 .1 .1 .1 .0)) j n

@@ -1,0 +1,6 @@
+-- Laws of the edit.
+pub mod ParentLaws
+pub mod ChildLaws
+pub mod DoneLaws
+pub mod Outcomes
+pub mod Frame

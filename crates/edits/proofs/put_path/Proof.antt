@@ -1,0 +1,28 @@
+-- `put_path` meets its contract. Assumes nothing.
+use borrow.Author.Needs.{needs}
+use Rattle.edits.proofs.ChildLaws.{path-one, path-two}
+use Rattle.edits.proofs.put_path.Statement.{statement}
+use Rattle.edits.proofs.put_path.Tie as tie
+
+put-hash-requires : tie.Need-put-hash-requires
+put-hash-requires c κs = search needs
+
+put-hash-requires-2 : tie.Need-put-hash-requires-2
+put-hash-requires-2 c κs = search needs
+
+same-length : tie.Need-same-length
+same-length c = search needs
+
+returns : tie.Need-returns
+returns c = let a = (c .before .before .before .before .before .before .before .before .before .before .before .before) .args in path-two (a .path .now) (a .hash) (a .p) _ ((c .before .before .before .before .before .before .before .before .before .before .before .before) .pre) ((c .before .before .before .before .before .before .before .before .before .put-hash) .ensures) _ ((c .before .before .before .before .before .before .if1) .taken) ((c .before .before .put-hash2) .ensures)
+
+same-length-2 : tie.Need-same-length-2
+same-length-2 c = search needs
+
+returns-2 : tie.Need-returns-2
+returns-2 c = let a = (c .before .before .before .before .before .before) .args in path-one (a .path .now) (a .hash) (a .p) _ ((c .before .before .before .before .before .before) .pre) ((c .before .before .before .put-hash) .ensures) ((c .if1) .left)
+
+pub put-path-spec : {M : Type 1} → statement M
+put-path-spec =
+    tie.close
+    (tie.spec put-hash-requires put-hash-requires-2 same-length returns same-length-2 returns-2)

@@ -1,0 +1,99 @@
+// Edits: the ordinary edit, over a replica in a lent buffer.
+// It finds the parent and decides the refusals that are an edit's own; the rest is the path write. It
+// uses the crates rules, octets, union, tree, store, reads and writes.
+use crate::parent::Parent;
+use crate::parent::last_number;
+use crate::parent::next_number;
+use crate::parent::parent_of;
+use crate::parent::rule_met;
+use octets::run::put_hash;
+use rules::Content;
+use rules::Edited;
+use rules::Refusal;
+use rules::RevNumber;
+use rules::Revision;
+use rules::Written;
+use store::read::body_of_id;
+use tree::table::is_missing;
+use writes::form::bad_id;
+use writes::write;
+ghost use mathlib.Core.Path.{_≡_};
+ghost use lib.ListN.{length};
+ghost use Rattle.store.specs.Storage.{IsStored};
+ghost use Rattle.writes.specs.Edit.{editOf};
+ghost use Rattle.writes.specs.Path.{writeOf};
+ghost use Rattle.edits.specs.Edit.{parentSays, pathFrom, PathPut, ChildWritten, EditDone};
+
+mod parent;
+
+// The bytes of a hash, and of the longest path that an edit gives: its own and its parent's.
+const HASH: usize = 16;
+
+const PATH: usize = 32;
+
+// Writes the new hash and its parent's, if there is one, and answers how many bytes they are.
+fn put_path(path: &mut [u8], hash: [u8; 16], p: Parent) -> usize
+    requires { ⌜ length (now path) ≡ 32 ⌝ }
+    ensures { λ r. ⌜ PathPut hash p r (now (path .exit)) ⌝ }
+{
+    put_hash(path, 0, hash);
+    if p.known {
+        let rev = p.rev;
+        let parent = rev.hash;
+        put_hash(path, HASH, parent);
+        return PATH;
+    }
+    HASH
+}
+
+// Makes the path write of the new revision and its parent, and answers the number where it is accepted.
+fn write_child(
+    b: &mut [u8],
+    id: &[u8],
+    number: RevNumber,
+    hash: [u8; 16],
+    p: Parent,
+    content: Content,
+) -> Edited
+    requires { ⌜ IsStored (now b) ⌝ }
+    ensures { λ r. ⌜ ChildWritten (now (b .entry)) (writeOf (now (id .entry)) number (pathFrom hash (parentSays p)) content) number hash r (now (b .exit)) ⌝ }
+{
+    let mut path = [0u8; PATH];
+    let end = put_path(&mut path, hash, p);
+    match write(b, id, number, &path[..end], content) {
+        Written::Accepted(_) => Edited::Accepted(number),
+        Written::Refused(n) => Edited::Refused(n),
+    }
+}
+
+// The ordinary edit: any id, any hash, any content, and a parent if one is named. (`parent` says
+// nothing where none is.)
+pub fn edit(
+    b: &mut [u8],
+    id: &[u8],
+    hash: [u8; 16],
+    content: Content,
+    named: bool,
+    parent: Revision,
+) -> Edited
+    requires { ⌜ IsStored (now b) ⌝ }
+    ensures { λ r. ⌜ EditDone (now (b .entry)) (editOf (now (id .entry)) hash content named parent) r (now (b .exit)) ⌝ }
+{
+    if bad_id(id) {
+        return Edited::Refused(Refusal::BadId);
+    }
+    let body = body_of_id(b, id);
+    let p = parent_of(b, body.base, body.rows, named, parent);
+    if !rule_met(b, body.base, body.rows, content, named, parent, p.known) {
+        return Edited::Refused(Refusal::NotAParent);
+    }
+    if last_number(p) {
+        return Edited::Refused(Refusal::LastNumber);
+    }
+    let number = next_number(p);
+    let rev = Revision { number, hash };
+    if !is_missing(b, body.base, body.rows, rev) {
+        return Edited::Refused(Refusal::AlreadyKnown);
+    }
+    write_child(b, id, number, hash, p, content)
+}
