@@ -44,7 +44,10 @@ fn answer(result: u64) -> Result<u32, Refusal> {
     if result >> 63 == 0 {
         return Ok(u32::try_from(result).expect("an answer of over 32 bits"));
     }
-    Err(Refusal::from_answer((result >> 32) as u32 & 0x7fff_ffff, result as u32))
+    Err(Refusal::from_answer(
+        (result >> 32) as u32 & 0x7fff_ffff,
+        result as u32,
+    ))
 }
 
 /// The answer of a call that can be refused only for reasons this crate rules out.

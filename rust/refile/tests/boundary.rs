@@ -330,6 +330,8 @@ fn answer_buffers() {
     assert_eq!(found[8..], [0xee; 56]);
     // Where the id does not fit, the answer buffer stays as well.
     let mut found = [0xee; 16];
-    refused(SHORT_BUFFER, |bytes| changes(bytes, &mut [0; 2], &mut found));
+    refused(SHORT_BUFFER, |bytes| {
+        changes(bytes, &mut [0; 2], &mut found)
+    });
     assert_eq!(found, [0xee; 16]);
 }
