@@ -1,7 +1,8 @@
 -- The path of an edit in a scratch place, and the path write that is answered as an edit. Assumes nothing.
 use mathlib.Core.Path.{_≡_, refl, sym, ap, _∙_, subst}
-use mathlib.Core.Bool.{true, false}
-use mathlib.Core.List.{List, _++_, append-nil}
+use mathlib.Core.Bool.{Bool, true, false}
+use mathlib.Core.List.{List, [], _++_, append-nil}
+use mathlib.Core.Option.{none, some}
 use Prim.Native.Nat.{ℕ}
 use native.Mathlib.Omega.{arith}
 use lib.ListN.{length, take, length-append}
@@ -11,6 +12,7 @@ use Rattle.rules.specs.declared.Edited.{Edited}
 use Rattle.rules.specs.declared.RevNumber.{RevNumber}
 use Rattle.rules.specs.declared.Written.{Written}
 use Rattle.rules.specs.Bytes.{part}
+use Rattle.rules.specs.Choice.{pick}
 use Rattle.rules.specs.Replica.{Id, Hash}
 use Rattle.octets.specs.Octets.{HashPut}
 use Rattle.octets.specs.Splice.{splice}
@@ -23,12 +25,12 @@ use Rattle.edits.specs.Edit.{parentSays, pathFrom, PathPut, ChildWritten
 
 -- ---- the path in a place of 32 bytes
 
-module _ (s : List ℕ) (h : Hash) (p : Parent) (a : List ℕ) (room : length s ≡ 32) (first : HashPut s 0 h a) where
+module _ (s : List ℕ) (h : Hash) (known : Bool) (p : Hash) (a : List ℕ) (room : length s ≡ 32) (first : HashPut s 0 h a) where
   length-first : length a ≡ 32
   length-first = let z = first .size in ap length (first .is) ∙ (length-splice s 0 h (omega arith) ∙ room)
 
   -- with no parent, it is the new hash
-  pub path-one : p .known ≡ false → PathPut h p 16 a
+  pub path-one : known ≡ false → PathPut h known p 16 a
   unfolding part
   path-one e =
       let z = first .size in
@@ -40,26 +42,29 @@ module _ (s : List ℕ) (h : Hash) (p : Parent) (a : List ℕ) (room : length s 
       }
 
   -- with a parent, its hash comes second
-  pub path-two : (b : List ℕ) → p .known ≡ true → HashPut a 16 (p .rev .hash) b → PathPut h p 32 b
+  pub path-two : (b : List ℕ) → known ≡ true → HashPut a 16 p b → PathPut h known p 32 b
   path-two b e second =
-      let v : Hash = p .rev .hash in
       let y = first .size in
       let z = second .size in
-      let l : length (h ++ v) ≡ 32 = length-append h v ∙ omega arith in
-      let w : b ≡ h ++ v =
-      second .is ∙ (ap (λ (x : List ℕ). splice x 16 v) (first .is) ∙ (chain s h v 0 16 (omega arith) (omega arith) ∙ splice-whole s (h ++ v) (l ∙ sym room))) in
+      let l : length (h ++ p) ≡ 32 = length-append h p ∙ omega arith in
+      let w : b ≡ h ++ p =
+      second .is ∙ (ap (λ (x : List ℕ). splice x 16 p) (first .is) ∙ (chain s h p 0 16 (omega arith) (omega arith) ∙ splice-whole s (h ++ p) (l ∙ sym room))) in
       let m : length b ≡ 32 = ap length w ∙ l in
       record {
         within = omega arith;
-        path = ap (take 32) w ∙ (take-all 32 (h ++ v) (omega arith) ∙ rw e refl);
+        path = ap (take 32) w ∙ (take-all 32 (h ++ p) (omega arith) ∙ rw e refl);
         size = y;
       }
 
 -- ---- the write
 
 pub child-written : (s : List ℕ) (i : Id) (n : RevNumber) (h : Hash) (p : Parent) (c : Content) (m : ℕ) (q : List ℕ) (o : Written) (r : Edited) (after : List ℕ)
-    → PathPut h p m q → Wrote s (writeOf i n (take m q) c) o after → r ≡ answerOf n o
+    → PathPut h (p .known) (p .rev .hash) m q → Wrote s (writeOf i n (take m q) c) o after → r ≡ answerOf n o
     → ChildWritten s (writeOf i n (pathFrom h (parentSays p)) c) n h r after
 child-written s i n h p c m q o r after put wrote e =
-    let w : Wrote s (writeOf i n (pathFrom h (parentSays p)) c) o after = subst (λ (x : List ℕ). Wrote s (writeOf i n x c) o after) (put .path) wrote in
+    let w : Wrote s (writeOf i n (pathFrom h (parentSays p)) c) o after = subst (λ (x : List ℕ). Wrote s (writeOf i n x c) o after) (put .path ∙ path-is (p .known)) wrote in
     record { answer = e ∙ ap (answerOf n) (w .answer); left = w .left; means = w .means; is = w .is; size = put .size }
+  where
+    path-is : (k : Bool) → h ++ pick k (p .rev .hash) [] ≡ pathFrom h (pick k (some (p .rev)) none)
+    path-is true = refl
+    path-is false = refl

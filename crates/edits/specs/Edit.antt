@@ -68,10 +68,10 @@ numberAfter o = record { 0 = suc (maybe 0 (λ v. v .number .0) o) }
 abbrev pub pathFrom : Hash → Option Revision → List ℕ
 pathFrom h o = h ++ maybe [] (λ v. v .hash) o
 
--- the first n bytes are the path
-pub record PathPut (h : Hash) (p : Parent) (n : ℕ) (after : List ℕ) : Type 0 where
+-- the first n bytes are the hash h and, if there is a parent, its hash p
+pub record PathPut (h : Hash) (known : Bool) (p : Hash) (n : ℕ) (after : List ℕ) : Type 0 where
   pub within : n ≤ length after
-  pub path : take n after ≡ pathFrom h (parentSays p)
+  pub path : take n after ≡ h ++ pick known p []
   pub size : length h ≡ hashSize
 
 -- the path write w of a newest hash h is made, and answered as an edit of the number n

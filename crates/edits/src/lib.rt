@@ -31,15 +31,13 @@ const HASH: usize = 16;
 
 const PATH: usize = 32;
 
-// Writes the new hash and its parent's, if there is one, and answers how many bytes they are.
-fn put_path(path: &mut [u8], hash: [u8; 16], p: Parent) -> usize
+// Writes the new hash and its parent's, if it has one, and answers how many bytes they are.
+fn put_path(path: &mut [u8], hash: [u8; 16], known: bool, parent: [u8; 16]) -> usize
     requires { ⌜ length (now path) ≡ 32 ⌝ }
-    ensures { λ r. ⌜ PathPut hash p r (now (path .exit)) ⌝ }
+    ensures { λ r. ⌜ PathPut hash known parent r (now (path .exit)) ⌝ }
 {
     put_hash(path, 0, hash);
-    if p.known {
-        let rev = p.rev;
-        let parent = rev.hash;
+    if known {
         put_hash(path, HASH, parent);
         return PATH;
     }
@@ -58,8 +56,10 @@ fn write_child(
     requires { ⌜ IsStored (now b) ⌝ }
     ensures { λ r. ⌜ ChildWritten (now (b .entry)) (writeOf (now (id .entry)) number (pathFrom hash (parentSays p)) content) number hash r (now (b .exit)) ⌝ }
 {
+    let rev = p.rev;
+    let parent = rev.hash;
     let mut path = [0u8; PATH];
-    let end = put_path(&mut path, hash, p);
+    let end = put_path(&mut path, hash, p.known, parent);
     match write(b, id, number, &path[..end], content) {
         Written::Accepted(_) => Edited::Accepted(number),
         Written::Refused(n) => Edited::Refused(n),

@@ -14,13 +14,13 @@ same-length : tie.Need-same-length
 same-length c = search needs
 
 returns : tie.Need-returns
-returns c = let a = (c .before .before .before .before .before .before .before .before .before .before .before .before) .args in path-two (a .path .now) (a .hash) (a .p) _ ((c .before .before .before .before .before .before .before .before .before .before .before .before) .pre) ((c .before .before .before .before .before .before .before .before .before .put-hash) .ensures) _ ((c .before .before .before .before .before .before .if1) .taken) ((c .before .before .put-hash2) .ensures)
+returns c = let a = (c .before .before .before .before .before .before .before .before .before .before) .args in path-two (a .path .now) (a .hash) (a .known) (a .parent) _ ((c .before .before .before .before .before .before .before .before .before .before) .pre) ((c .before .before .before .before .before .before .before .put-hash) .ensures) _ ((c .before .before .before .before .if1) .taken) ((c .before .before .put-hash2) .ensures)
 
 same-length-2 : tie.Need-same-length-2
 same-length-2 c = search needs
 
 returns-2 : tie.Need-returns-2
-returns-2 c = let a = (c .before .before .before .before .before .before) .args in path-one (a .path .now) (a .hash) (a .p) _ ((c .before .before .before .before .before .before) .pre) ((c .before .before .before .put-hash) .ensures) ((c .if1) .left)
+returns-2 c = let a = (c .before .before .before .before .before .before) .args in path-one (a .path .now) (a .hash) (a .known) (a .parent) _ ((c .before .before .before .before .before .before) .pre) ((c .before .before .before .put-hash) .ensures) ((c .if1) .left)
 
 pub put-path-spec : {M : Type 1} → statement M
 put-path-spec =

@@ -20,7 +20,7 @@ slice-aggregate-write : tie.Need-slice-aggregate-write
 slice-aggregate-write c = sym (length-take-le _ _ ((c .before .before .before .put-path) .ensures .within))
 
 write-requires : tie.Need-write-requires
-write-requires c κs = (c .before .before .before .before .before .before .before) .pre
+write-requires c κs = (c .before .before .before .before .before .before .before .before .before) .pre
 
 enum-told : tie.Need-enum-told
 enum-told c = search needs
@@ -33,7 +33,7 @@ same-length c = search needs
 
 returns : tie.Need-returns
 returns c =
-    let a = (c .before .before .before .before .before .before .before .before .before .before .before .before) .args in
+    let a = (c .before .before .before .before .before .before .before .before .before .before .before .before .before .before) .args in
     child-written (a .b .now) (a .id .now) (a .number) (a .hash) (a .p) (a .content) _ _ _ _ _ ((c .before .before .before .before .before .before .before .before .put-path) .ensures) ((c .before .before .before .before .write) .ensures) (ap (answerOf (a .number)) (sym ((c .enum-told) .given .1)))
 
 same-length-2 : tie.Need-same-length-2
@@ -41,7 +41,7 @@ same-length-2 c = search needs
 
 returns-2 : tie.Need-returns-2
 returns-2 c =
-    let a = (c .before .before .before .before .before .before .before .before .before .before .before .before .before) .args in
+    let a = (c .before .before .before .before .before .before .before .before .before .before .before .before .before .before .before) .args in
     child-written (a .b .now) (a .id .now) (a .number) (a .hash) (a .p) (a .content) _ _ _ _ _ ((c .before .before .before .before .before .before .before .before .before .put-path) .ensures) ((c .before .before .before .before .before .write) .ensures) (ap (answerOf (a .number)) (sym ((c .before .n) .given .1)))
 
 pub write-child-spec : {M : Type 1} → statement M
