@@ -2,7 +2,7 @@
 use mathlib.Core.Path.{_≡_, refl, sym, ap, ap₂, _∙_, subst}
 use mathlib.Core.List.{List, [], _∷_, _++_, map}
 use mathlib.Core.Logic.{inl}
-use Prim.Native.Nat.{ℕ, suc, _+_, _-_, _*_, _≤_}
+use Prim.Native.Nat.{ℕ, suc, _+_, _-_, _*_, _≤_, _<_}
 use native.Mathlib.Omega.{arith}
 use lib.ListN.{length, take}
 use Rattle.rules.specs.declared.Content.{Content}
@@ -14,9 +14,9 @@ use Rattle.rules.specs.Image.{rowSize}
 use Rattle.rules.specs.Pull.{offer, offersOf, count, take-in}
 use Rattle.rules.specs.Read.{LeafOf, leafIn, leaves, pathOf}
 use Rattle.rules.specs.Replica.{Id, Tree, Document, Replica, documentOf, HasContent, IsDocument}
-use Rattle.rules.specs.Room.{revisionsMost, hashSize}
+use Rattle.rules.specs.Room.{revisionsMost, hashesMost}
 use Rattle.rules.specs.Union.{In}
-use Rattle.rules.specs.Write.{write}
+use Rattle.rules.specs.Write.{Write, write}
 use Rattle.rules.proofs.OrderLaws.{bytesOrder}
 use Rattle.octets.specs.Splice.{splice}
 use Rattle.octets.proofs.SpliceLaws.{length-splice, part-splice-at}
@@ -41,7 +41,7 @@ use Rattle.store.proofs.FitLaws.{stored-laid}
 use Rattle.store.proofs.StoredLaws.{size-laid}
 use Rattle.reads.proofs.NextLaws.{in-at}
 use Rattle.writes.specs.Judge.{Wrote}
-use Rattle.pulls.specs.Pulls.{Offered, offerOf, CanOffer, CanOfferAll}
+use Rattle.pulls.specs.Pulls.{pathRoom, Offered, Made, offerOf, CanOffer, CanOfferAll}
 
 -- ---- one offer
 
@@ -55,27 +55,30 @@ pub record WasPut (u : Tree) (v : Revision) (p : List ℕ) (n : ℕ) (q : List �
   pub path : take n q ≡ join (pathOf u v)
   pub room : length q ≡ length p
 
-pub was-put : (u : Tree) (v : Revision) (p : List ℕ) (n : ℕ) (q : List ℕ) → length (pathOf u v) * hashSize ≤ length p → PathPut u v 0 p n q → WasPut u v p n q
-was-put u v p n q h d =
+pub was-put : (u : Tree) (v : Revision) (p : List ℕ) (n : ℕ) (q : List ℕ) → length (pathOf u v) ≤ hashesMost → pathRoom ≤ length p → PathPut u v 0 p n q → WasPut u v p n q
+was-put u v p n q f h d =
     let bs = join (pathOf u v) in
     let e = d .end in
     let z = d .size in
     let l : length q ≡ length p = ap length (d .is) ∙ length-splice p 0 bs (omega arith) in
     record { within = omega arith; path = ap (take n) (d .is) ∙ path-front p bs n (omega arith) (omega arith); room = l }
 
--- the answer is counted, and the target is what the write leaves
-pub offer-made : (i : Id) (u : Tree) (v : Revision) (c : Content) (counts after : Counts) (t p : List ℕ) (n : ℕ) (q : List ℕ) (r : Written) (left : List ℕ)
+-- the target is what the write leaves
+pub offer-made : (i : Id) (u : Tree) (v : Revision) (c : Content) (t p : List ℕ) (n : ℕ) (q : List ℕ) (r : Written) (left : List ℕ)
     → WasPut u v p n q → Wrote t (record { id = i; number = v .number; path = take n q; content = c }) r left
-    → after ≡ count r counts → Offered (offerOf i u v c ∷ []) counts t p after left q
+    → Made (offerOf i u v c) t p r left q
+offer-made i u v c t p n q r left put wrote =
+    let d : Wrote t (offerOf i u v c) r left = subst (λ (bs : List ℕ). Wrote t (record { id = i; number = v .number; path = bs; content = c }) r left) (put .path) wrote in
+    record { answer = d .answer; means = d .means; is-stored = d .is; room = put .room }
+
+-- and the answer is counted
+counted : (w : Write) (c after : Counts) (t p : List ℕ) (r : Written) (left q : List ℕ) → Made w t p r left q → after ≡ count r c → Offered (w ∷ []) c t p after left q
 unfolding take-in
-offer-made i u v c counts after t p n q r left put wrote e =
-    let o = offerOf i u v c in
-    let d : Wrote t o r left = subst (λ (bs : List ℕ). Wrote t (record { id = i; number = v .number; path = bs; content = c }) r left) (put .path) wrote in
-    record {
-      is = ap₂ {C = Counts × Replica} (λ a b. (a, b)) (ap (λ (x : Written). count x counts) (sym (d .answer)) ∙ sym e) (sym (d .means));
-      is-stored = d .is;
-      room = put .room;
-    }
+counted w c after t p r left q made e = record {
+  is = ap₂ {C = Counts × Replica} (λ a b. (a, b)) (ap (λ (x : Written). count x c) (sym (made .answer)) ∙ sym e) (sym (made .means));
+  is-stored = made .is-stored;
+  room = made .room;
+}
 
 -- ---- the leaves of a document, from the last row down
 
@@ -134,7 +137,7 @@ module _ (s : List ℕ) (d : ℕ) (b : Body) (body : IsBody s d b) where
         unfolding revAt
         next-leaf = next ∙ rw (leaf-one (b .base + j * rowSize) s o k, rev-of-row (b .base + j * rowSize) s, r)
 
-        pub left-leaf : (c′ : Counts) (t′ p′ : List ℕ) → Offered (offerOf id (treeAt (b .base) (b .rows) s) v o ∷ []) c t p c′ t′ p′ → Left s b x c₀ t₀ p₀ t′ p′ j c′
+        left-leaf : (c′ : Counts) (t′ p′ : List ℕ) → Offered (offerOf id (treeAt (b .base) (b .rows) s) v o ∷ []) c t p c′ t′ p′ → Left s b x c₀ t₀ p₀ t′ p′ j c′
         unfolding take-in offer
         left-leaf c′ t′ p′ made =
             let ws = map (offer (x .0) (x .1 .tree)) (leaves (treeAt (b .base) j s)) in
@@ -154,6 +157,11 @@ module _ (s : List ℕ) (d : ℕ) (b : Body) (body : IsBody s d b) where
               room = made .room ∙ left .room;
             }
 
+        -- whatever its answer was, the offer is counted and the rows below are left
+        pub left-counted : (c′ : Counts) (t′ p′ : List ℕ) (a : Written) → Made (offerOf id (treeAt (b .base) (b .rows) s) v o) t p a t′ p′ → c′ ≡ count a c → Left s b x c₀ t₀ p₀ t′ p′ j c′
+        left-counted c′ t′ p′ a made q =
+            left-leaf c′ t′ p′ (counted (offerOf id (treeAt (b .base) (b .rows) s) v o) c c′ t p a t′ p′ made q)
+
         leaf-in : In (leafOf v o) (leaves (x .1 .tree))
         leaf-in =
             let cut : treeAt (b .base) (b .rows) s ≡ treeAt (b .base) i s ++ treeAt (b .base + i * rowSize) (b .rows - i) s
@@ -163,7 +171,10 @@ module _ (s : List ℕ) (d : ℕ) (b : Body) (body : IsBody s d b) where
             rw all
             (in-right (leafOf v o) (leaves (treeAt (b .base + i * rowSize) (b .rows - i) s)) (leaves (treeAt (b .base) i s)) (rw next-leaf (inl refl)))
 
-        pub can-offer : CanOfferAll s d c₀ t₀ p₀ → CanOffer s b v c t p
+        pub can-count : total c < revisionsMost
+        can-count = let n : length (leaves (treeAt (b .base) i s)) ≡ suc (length (leaves (treeAt (b .base) j s))) = ap length next-leaf in let l = left .few in omega arith
+
+        pub can-offer : CanOfferAll s d c₀ t₀ p₀ → CanOffer s b v t p
         unfolding offer documentOf
         can-offer can =
             let r = replicaOf s in
@@ -171,11 +182,10 @@ module _ (s : List ℕ) (d : ℕ) (b : Body) (body : IsBody s d b) where
             let m : In x (r .documents) = in-at (documentsOf s) d (can .within) in
             let is : IsDocument r (x .0) (x .1) = z .documents (x .0) (x .1) (in-find bytesOrder (r .documents) (z .ascending) x m) in
             let has : HasContent (x .1 .tree) v o = leaf-content (x .1 .tree) (is .tree .ascending) (leafOf v o) leaf-in in
-            let n : length (leaves (treeAt (b .base) i s)) ≡ suc (length (leaves (treeAt (b .base) j s))) = ap length next-leaf in
             record {
               rows = record { within = body-shows s d b body .within; ascending = rw tree-is (is .tree .ascending) };
-              room = rw tree-is (let y = path-room r z (x .0) (x .1) m is (leafOf v o) has in let e₁ = can .room in let e₂ = left .room in omega arith);
-              few = let l = left .few in omega arith;
+              few = rw tree-is (path-room r z (x .0) (x .1) m is (leafOf v o) has);
+              room = let e₁ = can .room in let e₂ = left .room in omega arith;
               target = left .is-stored;
             }
 

@@ -7,12 +7,13 @@ use Rattle.rules.specs.declared.Content.{Content}
 use Rattle.rules.specs.declared.Counts.{Counts}
 use Rattle.rules.specs.declared.Revision.{Revision}
 use Rattle.rules.specs.declared.Seq.{Seq}
+use Rattle.rules.specs.declared.Written.{Written}
 use Rattle.rules.specs.Bytes.{join}
 use Rattle.rules.specs.Pull.{take-in, pull}
 use Rattle.rules.specs.Read.{leaves, pathOf}
 use Rattle.rules.specs.Replica.{Id, Tree}
 use Rattle.rules.specs.Room.{revisionsMost, hashesMost, hashSize}
-use Rattle.rules.specs.Write.{Write}
+use Rattle.rules.specs.Write.{Write, write}
 use Rattle.union.specs.Said.{total}
 use Rattle.tree.specs.Table.{treeAt, Searchable}
 use Rattle.store.specs.declared.read.Body.{Body}
@@ -44,15 +45,22 @@ pub record Offered (ws : List Write) (c : Counts) (t p : List ℕ) (after : Coun
   pub is-stored : IsStored left
   pub room : length p′ ≡ length p
 
+-- the offer w is made to t: it is written, and the scratch place p stays as long as it was
+pub record Made (w : Write) (t p : List ℕ) (r : Written) (left p′ : List ℕ) : Type 0 where
+  pub answer : r ≡ write (replicaOf t) w .0
+  pub means : replicaOf left ≡ write (replicaOf t) w .1
+  pub is-stored : IsStored left
+  pub room : length p′ ≡ length p
+
 -- a revision with its whole path
 abbrev pub offerOf : Id → Tree → Revision → Content → Write
 offerOf i t v c = record { id = i; number = v .number; path = join (pathOf t v); content = c }
 
--- one leaf: there is room for its path, and the counts can rise
-pub record CanOffer (s : List ℕ) (b : Body) (v : Revision) (c : Counts) (t p : List ℕ) : Type 0 where
+-- one leaf: there is room for the longest path, and its own is no longer
+pub record CanOffer (s : List ℕ) (b : Body) (v : Revision) (t p : List ℕ) : Type 0 where
   pub rows : Searchable (b .base) (b .rows) s
-  pub room : length (pathOf (treeAt (b .base) (b .rows) s) v) * hashSize ≤ length p
-  pub few : total c < revisionsMost
+  pub few : length (pathOf (treeAt (b .base) (b .rows) s) v) ≤ hashesMost
+  pub room : pathRoom ≤ length p
   pub target : IsStored t
 
 -- all leaves of document d

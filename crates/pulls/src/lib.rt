@@ -20,15 +20,17 @@ use tree::table::kind_at;
 use tree::table::rev_at;
 use writes::write;
 ghost use mathlib.Core.Path.{_≡_};
-ghost use mathlib.Core.List.{[], _∷_};
 ghost use Prim.Native.Nat.{_<_};
 ghost use Rattle.rules.specs.declared.Refusal.{Refusal};
 ghost use Rattle.rules.specs.Pull.{offersOf, count};
 ghost use Rattle.rules.specs.Room.{revisionsMost};
 ghost use Rattle.union.specs.Said.{total};
 ghost use Rattle.tree.specs.Table.{treeAt};
+ghost use Rattle.store.specs.Storage.{IsStored};
 ghost use Rattle.store.specs.Documents.{documentsOf, documentAt};
-ghost use Rattle.pulls.specs.Pulls.{CanPull, Pulled, Offered, offerOf, CanOffer, CanOfferAll};
+ghost use Rattle.writes.specs.Judge.{Wrote};
+ghost use Rattle.writes.specs.Path.{writeOf};
+ghost use Rattle.pulls.specs.Pulls.{CanPull, Pulled, Offered, Made, offerOf, CanOffer, CanOfferAll};
 
 // The bytes of the longest path.
 const PATH: usize = PATH_HASHES * 16;
@@ -62,6 +64,15 @@ fn count_refused(c: Counts) -> Counts
     }
 }
 
+// One offer to the target, made also where the target knows the leaf.
+fn offer(target: &mut [u8], id: &[u8], rev: Revision, path: &[u8], content: Content) -> Written
+    requires { ⌜ IsStored (now target) ⌝ }
+    ensures { λ r. ⌜ Wrote (now (target .entry)) (writeOf (now (id .entry)) (rev .number) (now (path .entry)) content) r (now (target .exit)) ⌝ }
+{
+    let number = rev.number;
+    write(target, id, number, path, content)
+}
+
 // Offers one leaf with its whole path, whose hashes stand in `path` meanwhile.
 fn offer_leaf(
     target: &mut [u8],
@@ -70,21 +81,17 @@ fn offer_leaf(
     id: &[u8],
     rev: Revision,
     content: Content,
-    counts: Counts,
     path: &mut [u8],
-) -> Counts
-    requires { ⌜ CanOffer (now source) body rev counts (now target) (now path) ⌝ }
-    ensures { λ r. ⌜ Offered (offerOf (now (id .entry)) (treeAt (body .base) (body .rows) (now (source .entry))) rev content ∷ []) counts (now (target .entry)) (now (path .entry)) r (now (target .exit)) (now (path .exit)) ⌝ }
+) -> Written
+    requires { ⌜ CanOffer (now source) body rev (now target) (now path) ⌝ }
+    ensures { λ r. ⌜ Made (offerOf (now (id .entry)) (treeAt (body .base) (body .rows) (now (source .entry))) rev content) (now (target .entry)) (now (path .entry)) r (now (target .exit)) (now (path .exit)) ⌝ }
 {
-    let number = rev.number;
     let end = put_path(source, body.base, body.rows, rev, path, 0);
-    let Written::Accepted(o) = write(target, id, number, &path[..end], content) else {
-        return count_refused(counts);
-    };
-    count_accepted(counts, o)
+    offer(target, id, rev, &path[..end], content)
 }
 
-// Offers the leaves of document d, the highest first.
+// Offers the leaves of document d, the highest first. A refused offer is counted, and the next leaf
+// follows.
 fn offer_document(
     target: &mut [u8],
     source: &[u8],
@@ -106,7 +113,12 @@ fn offer_document(
             Kind::Inner => {}
             Kind::Leaf(content) => {
                 let rev = rev_at(source, base, i);
-                c = offer_leaf(target, source, body, id, rev, content, c, path);
+                let Written::Accepted(o) = offer_leaf(target, source, body, id, rev, content, path)
+                else {
+                    c = count_refused(c);
+                    continue;
+                };
+                c = count_accepted(c, o);
             }
         }
     }
