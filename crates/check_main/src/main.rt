@@ -7,13 +7,18 @@ use libc::STDOUT_FILENO;
 use report::REPORT_MOST;
 use report::put_report;
 use rules::DOCUMENTS;
+use rules::ENTRY;
+use rules::HEAD;
 use rules::REVISIONS;
+use rules::ROW;
+ghost use mathlib.Core.Path.{_≡_};
 ghost use Prim.Native.Nat.{_≤_};
 ghost use lib.ListN.{length};
+ghost use Rattle.rules.specs.Report.{inputMost};
 ghost use Rattle.check_main.specs.Input.{Fits, Within};
 
 // One byte more than the largest image has, so that a longer input is seen to be too long.
-const INPUT: usize = 16 + 44 * DOCUMENTS + 48 * REVISIONS + 1;
+const INPUT: usize = HEAD + ENTRY * DOCUMENTS + ROW * REVISIONS + 1;
 
 // How often a read that a signal interrupted is tried again.
 const TRIES: usize = 1000;
@@ -51,8 +56,10 @@ fn read_at(buf: &mut [u8], at: usize) -> Got
     Got::Bytes(n)
 }
 
-// Reads until buf is full, the input ends or a read fails. A failed read is never taken for the end.
+// Reads until buf is full, the input ends or a read fails: no byte past `inputMost`. A failed read is
+// never taken for the end.
 fn read_input(buf: &mut [u8]) -> Input
+    requires { ⌜ length (now buf) ≡ inputMost ⌝ }
     ensures { λ r. ⌜ Within r (length (now (buf .exit))) ⌝ }
 {
     let mut at = 0;
