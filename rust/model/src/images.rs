@@ -310,6 +310,25 @@ fn rearrange(random: &mut Random, image: &mut Image) {
     }
 }
 
+/// A sound image with a document more: a copy of one of them, under its id and a zero byte, that was
+/// changed last. Where ids, room and sequences allow it, the image is sound.
+pub fn grow(random: &mut Random, sound: &[u8]) -> Vec<u8> {
+    let mut image = Image::read(sound).expect("a sound image");
+    if !image.entries.is_empty() {
+        let at = random.below(image.entries.len());
+        let (first, rows) = image.bodies()[at];
+        let (end, rows) = (first + rows.len(), rows.to_vec());
+        let mut entry = image.entries[at].clone();
+        entry.id_length += 1;
+        entry.sequence = image.head.sequence.wrapping_add(1);
+        image.head.sequence = entry.sequence;
+        image.entries.insert(at + 1, entry);
+        image.rows.splice(end..end, rows);
+        refit(&mut image);
+    }
+    image.bytes()
+}
+
 /// The index of the document that the row belongs to.
 fn owner(image: &Image, row: usize) -> usize {
     let bodies = image.bodies();
