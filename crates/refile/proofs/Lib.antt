@@ -1,0 +1,7 @@
+-- Laws of the C boundary.
+pub mod NumberLaws
+pub mod CallLaws
+pub mod AnswerLaws
+pub mod ChangeLaws
+pub mod ReadCallLaws
+pub mod Outcomes

@@ -1,0 +1,29 @@
+-- `refile_fresh` meets its contract. Assumes nothing.
+use mathlib.Core.Path.{refl}
+use mathlib.Core.List.{[]}
+use Rattle.refile.specs.Boundary.{freshCall}
+use Rattle.refile.proofs.CallLaws.{bad-size, sized, made}
+use borrow.Author.Needs.{needs}
+use Rattle.refile.proofs.change.refile_fresh.Statement.{statement}
+use Rattle.refile.proofs.change.refile_fresh.Tie as tie
+
+refused-requires : tie.Need-refused-requires
+refused-requires c κs = search needs
+
+returns : tie.Need-returns
+unfolding freshCall
+returns c = made (bad-size _ _ _ [] (c .before .if1 .taken)) (c .refused .ensures) refl
+
+make-fresh-requires : tie.Need-make-fresh-requires
+make-fresh-requires c κs = search needs
+
+same-length : tie.Need-same-length
+same-length c = search needs
+
+returns-2 : tie.Need-returns-2
+unfolding freshCall
+returns-2 c = made (sized _ _ _ (c .before .before .before .before .if1 .left)) refl (c .before .before .make-fresh .ensures .bytes)
+
+pub refile-fresh-spec : {M : Type 1} → statement M
+refile-fresh-spec =
+    tie.close (tie.spec refused-requires returns make-fresh-requires same-length returns-2)

@@ -1,0 +1,52 @@
+-- `refile_counts` meets its contract. Assumes nothing.
+use mathlib.Core.Path.{refl}
+use mathlib.Core.List.{[]}
+use borrow.Author.Needs.{needs}
+use Rattle.refile.specs.Boundary.{heldBytes, countsCall}
+use Rattle.refile.proofs.CallLaws.{bad-size, made}
+use Rattle.refile.proofs.ReadCallLaws.{counts-short, counts-answer}
+use Rattle.refile.proofs.read.refile_counts.Statement.{statement}
+use Rattle.refile.proofs.read.refile_counts.Tie as tie
+
+refused-requires : tie.Need-refused-requires
+refused-requires c κs = search needs
+
+returns : tie.Need-returns
+unfolding countsCall
+returns c = made (bad-size _ _ _ [] (c .before .if1 .taken)) (c .refused .ensures) refl
+
+refused-requires-2 : tie.Need-refused-requires-2
+refused-requires-2 c κs = search needs
+
+returns-2 : tie.Need-returns-2
+returns-2 c = counts-short _ _ (c .before .before .if1 .left) _ (c .before .if2 .taken) (c .refused2 .ensures)
+
+counts-requires : tie.Need-counts-requires
+counts-requires c κs = c .before .before .before .before .pre (c .before .if1 .left)
+
+slice-aggregate-put-numbers : tie.Need-slice-aggregate-put-numbers
+slice-aggregate-put-numbers c = search needs
+
+put-numbers-requires : tie.Need-put-numbers-requires
+put-numbers-requires c κs = search needs
+
+same-length : tie.Need-same-length
+same-length c = search needs
+
+returns-3 : tie.Need-returns-3
+unfolding heldBytes
+returns-3 c = counts-answer _ _ (c .before .before .before .before .before .before .before .if1 .left) _ _ (c .before .before .before .before .before .before .if2 .left) (c .before .before .before .before .before .counts .ensures) (c .before .before .put-numbers .ensures)
+
+pub refile-counts-spec : {M : Type 1} → statement M
+refile-counts-spec =
+    tie.close
+    (tie.spec
+    refused-requires
+    returns
+    refused-requires-2
+    returns-2
+    counts-requires
+    slice-aggregate-put-numbers
+    put-numbers-requires
+    same-length
+    returns-3)

@@ -1,0 +1,216 @@
+-- The C interface: one convention for every call, the house refusals, and what each call answers and
+-- leaves in the buffers lent to it.
+use mathlib.Core.Path.{_≡_}
+use mathlib.Core.Bool.{Bool, true, false, not, _&&_, _||_}
+use mathlib.Core.List.{List, [], _∷_, _++_}
+use mathlib.Core.Option.{Option, none, some}
+use Prim.Native.Nat.{ℕ, zero, suc, _+_, _*_, _<_, _≤_}
+use lib.Dec.{eqb, ltb}
+use lib.ListN.{length}
+use Rattle.rules.specs.declared.Change.{Change}
+use Rattle.rules.specs.declared.Changes.{Changes}
+use Rattle.rules.specs.declared.Changes.the-variants as changes
+use Rattle.rules.specs.declared.Content.{Content}
+use Rattle.rules.specs.declared.Content.the-variants.{Live, Deleted}
+use Rattle.rules.specs.declared.Counts.{Counts}
+use Rattle.rules.specs.declared.Held.{Held}
+use Rattle.rules.specs.declared.Loaded.{Loaded}
+use Rattle.rules.specs.declared.Loaded.the-variants as loaded
+use Rattle.rules.specs.declared.Revision.{Revision}
+use Rattle.rules.specs.Answer.{Numbered, accepted, refused, writtenNumber, editedNumber, answeredNumber, loadedNumber}
+use Rattle.rules.specs.Bytes.{be}
+use Rattle.rules.specs.Choice.{pick, maybe, firstThat}
+use Rattle.rules.specs.Edit.{Edit, edit}
+use Rattle.rules.specs.Image.{faults, save}
+use Rattle.rules.specs.Pull.{pull}
+use Rattle.rules.specs.Read.{readWinner, readLeaves, readPath, readMissing, readChanges, heldIn, front}
+use Rattle.rules.specs.Refusal.{refusalNumber}
+use Rattle.rules.specs.declared.Refusal.the-variants.{ShortBuffer}
+use Rattle.rules.specs.Replica.{Id, fresh, revision}
+use Rattle.rules.specs.Report.{readReport}
+use Rattle.rules.specs.Room.{hashSize}
+use Rattle.rules.specs.Write.{Write, write}
+use Rattle.codec.specs.Codec.{loadBytes}
+use Rattle.store.specs.Storage.{storeSize, stored, replicaOf, IsStored}
+
+-- ---- one number for each outcome
+
+-- an accepted call's answer; of a refused one 2^63, the refusal's number times 2^32, and the place
+abbrev pub resultOf : ℕ → ℕ → ℕ
+resultOf zero v = v
+resultOf (suc n) v = 9223372036854775808 + suc n * 4294967296 + v
+
+abbrev pub result : Numbered → ℕ
+result n = resultOf (n .refusal) (n .value)
+
+-- a place that the lower half holds
+abbrev pub SmallPlace : Loaded → Type 0
+SmallPlace loaded.Accepted = Unit {0}
+SmallPlace (loaded.Refused f place) = place < 4294967296
+
+-- ---- the house refusals: what the boundary can get and the rules have no number for
+
+-- 100: a replica's buffer of another size
+unfoldable pub badReplica : List ℕ → Bool × ℕ
+badReplica s = (not (eqb (length s) storeSize), 100)
+
+-- 101: a kind of content other than live (1) and deleted (2)
+unfoldable pub badKind : ℕ → Bool × ℕ
+badKind k = (not (eqb k 1 || eqb k 2), 101)
+
+-- 102: a deletion with a label
+unfoldable pub badLabel : ℕ → ℕ → Bool × ℕ
+badLabel k label = (eqb k 2 && not (eqb label 0), 102)
+
+-- 103: a flag other than 0 and 1
+unfoldable pub badFlag : ℕ → Bool × ℕ
+badFlag f = (not (eqb f 0 || eqb f 1), 103)
+
+-- 104: a hash that is not 16 bytes
+unfoldable pub badHash : List ℕ → Bool × ℕ
+badHash h = (not (eqb (length h) hashSize), 104)
+
+-- 105, where no parent is named: a parent number or hash is given
+unfoldable pub badNoParent : ℕ → List ℕ → Bool × ℕ
+badNoParent n h = (not (eqb n 0 && eqb (length h) 0), 105)
+
+-- a house refusal comes first and leaves what was lent
+unfoldable pub call : {L : Type 0} → List (Bool × ℕ) → L → Numbered × L → ℕ × L
+call house lent o = maybe (result (o .0), o .1) (λ n. (result (refused n), lent)) (firstThat house)
+
+-- a call that answers r, and leaves what was lent to be changed, as o says
+pub record Calls {L : Type 0} (o : ℕ × L) (r : ℕ) (left : L) : Type 0 where
+  pub answers : r ≡ o .0
+  pub leaves : left ≡ o .1
+
+-- the number of the first house refusal, 0 if there is none
+abbrev pub firstHouse : ℕ → Option ℕ
+firstHouse zero = none
+firstHouse (suc n) = some (suc n)
+
+pub record House (house : List (Bool × ℕ)) (n : ℕ) : Type 0 where
+  pub first : firstThat house ≡ firstHouse n
+  pub most : n ≤ 105
+
+-- what a call requires of a replica's buffer: if it has the size of one, it is one
+abbrev pub Lent : List ℕ → Type 0
+Lent s = length s ≡ storeSize → IsStored s
+
+-- 14, of an answer buffer
+unfoldable pub shortAnswer : Numbered
+shortAnswer = refused (refusalNumber ShortBuffer)
+
+-- numbers of four bytes each
+unfoldable pub numbers : List ℕ → List ℕ
+numbers [] = []
+numbers (n ∷ ns) = be 4 n ++ numbers ns
+
+-- ---- the calls: the result, and what is left of each buffer that was lent to be changed
+
+unfoldable pub freshCall : List ℕ → ℕ × List ℕ
+freshCall s = call (badReplica s ∷ []) s (accepted 0, stored fresh)
+
+unfoldable pub loadCall : List ℕ → List ℕ → ℕ × List ℕ
+loadCall s image =
+    let o = loadBytes s image (firstThat (faults image)) in call (badReplica s ∷ []) s (loadedNumber (o .0), o .1)
+
+unfoldable pub saveCall : List ℕ → List ℕ → ℕ × List ℕ
+saveCall s out = let o = save (replicaOf s) out in call (badReplica s ∷ []) out (answeredNumber (o .0), o .1)
+
+abbrev pub contentFrom : ℕ → ℕ → Content
+contentFrom k label = pick (eqb k 1) (Live label) Deleted
+
+unfoldable pub writeCall : List ℕ → Id → ℕ → List ℕ → ℕ → ℕ → ℕ × List ℕ
+writeCall s i number path kind label =
+    let w : Write = record { id = i; number = record { 0 = number }; path = path; content = contentFrom kind label } in
+    let o = write (replicaOf s) w in
+    call (badReplica s ∷ badKind kind ∷ badLabel kind label ∷ []) s (writtenNumber (o .0), stored (o .1))
+
+-- 104 of a parent that is named, else 105
+unfoldable pub parentHouse : ℕ → ℕ → List ℕ → Bool × ℕ
+parentHouse named number parent = pick (eqb named 1) (badHash parent) (badNoParent number parent)
+
+-- 101 to 105, in the order in which an edit tries them
+unfoldable pub editHouse : List ℕ → ℕ → ℕ → ℕ → ℕ → List ℕ → List (Bool × ℕ)
+editHouse hash kind label named number parent =
+    badKind kind
+    ∷ badLabel kind label
+    ∷ badFlag named
+    ∷ badHash hash
+    ∷ parentHouse named number parent
+    ∷ []
+
+-- the parent, if one is named
+abbrev pub parentFrom : ℕ → Revision → Option Revision
+parentFrom named parent = pick (eqb named 1) (some parent) none
+
+unfoldable pub editCall : List ℕ → Id → List ℕ → ℕ → ℕ → ℕ → ℕ → List ℕ → ℕ × List ℕ
+editCall s i hash kind label named number parent =
+    let e : Edit = record {
+      id = i;
+      hash = hash;
+      content = contentFrom kind label;
+      parent = parentFrom named (revision number parent);
+    } in
+    let o = edit (replicaOf s) e in
+    call (badReplica s ∷ editHouse hash kind label named number parent) s (editedNumber (o .0), stored (o .1))
+
+unfoldable pub winnerCall : List ℕ → Id → List ℕ → ℕ × List ℕ
+winnerCall s i out = let o = readWinner (replicaOf s) i out in call (badReplica s ∷ []) out (answeredNumber (o .0), o .1)
+
+unfoldable pub leavesCall : List ℕ → Id → List ℕ → ℕ × List ℕ
+leavesCall s i out = let o = readLeaves (replicaOf s) i out in call (badReplica s ∷ []) out (answeredNumber (o .0), o .1)
+
+unfoldable pub pathCall : List ℕ → Id → ℕ → List ℕ → List ℕ → ℕ × List ℕ
+pathCall s i number hash out =
+    let o = readPath (replicaOf s) i (revision number hash) out in
+    call (badReplica s ∷ badHash hash ∷ []) out (answeredNumber (o .0), o .1)
+
+unfoldable pub missingCall : List ℕ → Id → List ℕ → List ℕ → ℕ × List ℕ
+missingCall s i asked out =
+    let o = readMissing (replicaOf s) i asked out in call (badReplica s ∷ []) out (answeredNumber (o .0), o .1)
+
+abbrev pub flagNumber : Bool → ℕ
+flagNumber false = 0
+flagNumber true = 1
+
+-- "its id length, that sequence, its leaf count and whether its winner is a deletion"
+unfoldable pub changeBytes : Change → List ℕ
+changeBytes c = numbers (c .«id_len» ∷ c .seq .0 ∷ c .leaves ∷ flagNumber (c .deleted) ∷ [])
+
+-- both buffers as they are left: the one of the id and the one of the answer
+abbrev pub changesAs : List ℕ → List ℕ → Changes × List ℕ → Numbered × (List ℕ × List ℕ)
+changesAs out answer (changes.Next c, left) =
+    pick (ltb (length answer) (length (changeBytes c))) (shortAnswer, (out, answer)) (accepted 1, (left, front (changeBytes c) answer))
+changesAs out answer (changes.NoMore, left) = (accepted 0, (out, answer))
+changesAs out answer (changes.Refused n, left) = (refused (refusalNumber n), (out, answer))
+
+unfoldable pub changesCall : List ℕ → ℕ → List ℕ → List ℕ → ℕ × (List ℕ × List ℕ)
+changesCall s after out answer =
+    call (badReplica s ∷ []) (out, answer) (changesAs out answer (readChanges (replicaOf s) (record { 0 = after }) out))
+
+unfoldable pub countBytes : Counts → List ℕ
+countBytes c = numbers (c .changed ∷ c .unchanged ∷ c .refused ∷ [])
+
+-- the target and the answer buffer as they are left
+unfoldable pub pullCall : List ℕ → List ℕ → ℕ → List ℕ → ℕ × (List ℕ × List ℕ)
+pullCall target source after answer =
+    let o = pull (record { 0 = after }) (replicaOf source) (replicaOf target) in
+    call (badReplica target ∷ badReplica source ∷ []) (target, answer)
+    (pick (ltb (length answer) (length (countBytes (o .0)))) (shortAnswer, (target, answer))
+    (accepted 0, (stored (o .1), front (countBytes (o .0)) answer)))
+
+unfoldable pub sequenceCall : List ℕ → ℕ
+sequenceCall s = call {L = Unit {0}} (badReplica s ∷ []) tt (accepted (replicaOf s .seq .0), tt) .0
+
+unfoldable pub heldBytes : Held → List ℕ
+heldBytes h = numbers (h .documents ∷ h .revisions ∷ [])
+
+unfoldable pub countsCall : List ℕ → List ℕ → ℕ × List ℕ
+countsCall s answer =
+    let bytes = heldBytes (heldIn (replicaOf s)) in
+    call (badReplica s ∷ []) answer
+    (pick (ltb (length answer) (length bytes)) (shortAnswer, answer) (accepted 0, front bytes answer))
+
+unfoldable pub reportCall : List ℕ → List ℕ → ℕ × List ℕ
+reportCall image out = let o = readReport image out in (result (answeredNumber (o .0)), o .1)

@@ -1,0 +1,2 @@
+-- What each call of the C interface answers and leaves.
+pub mod Boundary
