@@ -21,18 +21,15 @@ use Rattle.rules.specs.declared.Fault.{Fault}
 use Rattle.rules.specs.declared.Loaded.{Loaded}
 use Rattle.rules.specs.declared.Loaded.the-variants.{Accepted, Refused}
 use Rattle.rules.specs.declared.Refusal.the-variants.{ShortBuffer}
-use Rattle.rules.specs.Bytes.{Bytes}
 use Rattle.rules.specs.Choice.{firstThat}
 use Rattle.rules.specs.Image.{image, save, faults, replicaIn}
 use Rattle.rules.specs.Outcome.{Does}
 use Rattle.rules.specs.Replica.{Replica, IsReplica}
 use Rattle.rules.proofs.OutcomeLaws.{does-one}
 use Rattle.images.proofs.Rules.{NoneHolds, none-holds, holds-none, IsFirst, first-is, is-first}
-use Rattle.images.proofs.Theorems.{image-loads, loaded-is-replica, image-injective, image-most}
+use Rattle.images.proofs.Theorems.{loads, image-loads, image-injective, image-most}
 use Rattle.octets.specs.Splice.{splice}
 use Rattle.store.specs.Storage.{stored, replicaOf, IsStored}
-use Rattle.store.proofs.FitLaws.{replica-fits}
-use Rattle.store.proofs.StoredLaws.{stored-back}
 use Rattle.codec.specs.Codec.{loadBytes, Loads}
 use Rattle.codec.proofs.SaveLaws.{save-short, save-written}
 use Rattle.codec.proofs.load.Kinds as load-kinds
@@ -131,12 +128,10 @@ module _ {before s after : List ℕ} {answer : Loaded} (k : Loads before s answe
       go (some f) e = by (some f) e .leaves
 
   -- an accepted image's replica stands in the buffer, and its image is the one that was loaded
-  pub load-accepts : Bytes s → answer ≡ Accepted → IsStored after × (replicaOf after ≡ replicaIn s) × (image (replicaOf after) ≡ s)
-  load-accepts p q =
-      let e = fine q in
-      let h = loaded-is-replica s p e in
-      let r : replicaOf after ≡ replicaIn s = ap replicaOf (by none e .leaves) ∙ stored-back (replicaIn s) (replica-fits (replicaIn s) (h .0)) in
-      (k .accepted q, r, ap image r ∙ h .1)
+  pub load-accepts : answer ≡ Accepted → IsStored after × (replicaOf after ≡ replicaIn s) × (image (replicaOf after) ≡ s)
+  load-accepts q =
+      let m = sym (k .means) ∙ loads (replicaOf before) s (fine q) in
+      (k .accepted q, ap (λ (x : Loaded × Replica). x .1) m, k .shows q)
 
 -- ---- saved, then loaded
 
@@ -155,27 +150,27 @@ saved-loads {b} {out} {saved} {before} {after} {n} i k l =
 -- ---- loaded, then saved
 
 -- whatever loads is, saved, the same bytes again
-pub loaded-saves : {before s after out saved : List ℕ} {answer : Answered} → Bytes s
+pub loaded-saves : {before s after out saved : List ℕ} {answer : Answered}
     → Loads before s Accepted after
     → Saves after out answer saved
     → length s ≤ length out
     → (answer ≡ answered.Count (length s)) × (saved ≡ s ++ drop (length s) out)
-loaded-saves {before} {s} {after} {out} {saved} {answer} p l k h =
+loaded-saves {before} {s} {after} {out} {saved} {answer} l k h =
     subst (λ (x : List ℕ). length x ≤ length out → (answer ≡ answered.Count (length x)) × (saved ≡ x ++ drop (length x) out))
-    (load-accepts l p refl .2) (save-fits k) h
+    (l .shows refl) (save-fits k) h
 
 -- ---- one image for each replica
 
 -- a replica's image loads as it, and nothing else does
-pub one-image-loads : (r : Replica) → IsReplica r → {before s after : List ℕ} {answer : Loaded} → Bytes s
+pub one-image-loads : (r : Replica) → IsReplica r → {before s after : List ℕ} {answer : Loaded}
     → Loads before s answer after
     → ((answer ≡ Accepted) × (replicaOf after ≡ r)) ↔ (s ≡ image r)
-one-image-loads r i {before} {s} {after} {answer} p l = (
-  λ h. sym (load-accepts l p (h .0) .2) ∙ ap image (h .1),
+one-image-loads r i {before} {s} {after} {answer} l = (
+  λ h. sym (l .shows (h .0)) ∙ ap image (h .1),
   λ e.
       let h = image-loads r i in
       let a : answer ≡ Accepted = by l none (ap (λ (x : List ℕ). firstThat (faults x)) e ∙ h .0) .answers in
-      (a, load-accepts l p a .1 ∙ (ap replicaIn e ∙ h .1)),
+      (a, load-accepts l a .1 ∙ (ap replicaIn e ∙ h .1)),
 )
 
 -- two buffers that mean the same replica save the same bytes

@@ -208,6 +208,7 @@ module _ (s : List ℕ) (p : Bytes s) (e : firstThat (faults s) ≡ none) where
         does = rw e (record { answers = refl; leaves = q });
         means = loads (replicaOf before) s e ∙ ap {B = Loaded × Replica} (λ r. (Accepted, r)) (sym back);
         accepted = λ _. stored-now;
+        shows = λ _. ap image back ∙ same;
         stays = λ _. stored-now;
       }
 
@@ -216,6 +217,7 @@ loads-refused before s f p e = record {
   does = rw e (record { answers = refl; leaves = refl });
   means = refuses (replicaOf before) s (f, p) e;
   accepted = λ q. absurd (never q);
+  shows = λ q. absurd (never q);
   stays = λ i. i;
 }
   where

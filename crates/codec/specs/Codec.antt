@@ -9,7 +9,7 @@ use Rattle.rules.specs.declared.Loaded.{Loaded}
 use Rattle.rules.specs.declared.Loaded.the-variants.{Accepted, Refused}
 use Rattle.rules.specs.Bytes.{be, value, part}
 use Rattle.rules.specs.Choice.{firstThat}
-use Rattle.rules.specs.Image.{faults, replicaIn, load, headSize, entrySize, rowSize, totalLength}
+use Rattle.rules.specs.Image.{image, faults, replicaIn, load, headSize, entrySize, rowSize, totalLength}
 use Rattle.rules.specs.Outcome.{Does}
 use Rattle.rules.specs.Replica.{Replica, revisionsHeld}
 use Rattle.rules.specs.Room.{documentsMost}
@@ -49,6 +49,8 @@ pub record Loads (before s : List ℕ) (answer : Loaded) (after : List ℕ) : Ty
   pub means : load (replicaOf before) s ≡ (answer, replicaOf after)
   -- what was accepted is a replica in the buffer, whatever was there
   pub accepted : answer ≡ Accepted → IsStored after
+  -- whose image is the one that was loaded
+  pub shows : answer ≡ Accepted → image (replicaOf after) ≡ s
   -- and what was a replica in the buffer stays one
   pub stays : IsStored before → IsStored after
 
