@@ -1,9 +1,12 @@
--- From the promise alone: every edit leaves a replica, and every other document answers as before. Assumes nothing.
-use mathlib.Core.Path.{_≡_, ap, _∙_}
+-- From the promise alone: every edit leaves a replica, every other document answers as before, and where
+-- it is refused every byte is as before. Assumes nothing.
+use mathlib.Core.Path.{_≡_, sym, ap, _∙_}
+use Rattle.rules.specs.declared.Edited.the-variants.{Refused}
+use Rattle.rules.specs.declared.Refusal.{Refusal}
 use Rattle.rules.specs.Replica.{Id, Replica, documentOf, IsReplica}
-use Rattle.store.specs.Storage.{replicaOf}
+use Rattle.store.specs.Storage.{replicaOf, stored}
 use Rattle.union.proofs.Demand3 as union
-use Rattle.writes.specs.Always.{Always}
+use Rattle.writes.specs.Always.{Always, AlwaysBy}
 use Rattle.writes.specs.Edit.{editOf}
 use Rattle.edits.proofs.edit.Kinds as edit
 use Rattle.edits.proofs.edit.Reads as edit'
@@ -19,3 +22,10 @@ pub edit-frame : Always _ edit.ps edit.r edit'.Asked edit'.Learnt
 edit-frame κs a x s h p j n =
     ap (λ (r : Replica). documentOf r j) (p .means)
     ∙ union.edit-frame (replicaOf (a .0 .now)) (editOf (a .1 .0 .now) (a .1 .1 .0) (a .1 .1 .1 .0) (a .1 .1 .1 .1 .0) (a .1 .1 .1 .1 .1 .0)) j n
+
+-- "A refusal .. alters neither replica nor buffer": the replica stands in the lent bytes.
+pub edit-refused : AlwaysBy _ edit.ps edit.r edit'.Asked edit'.Learnt (λ κs a x s. (n : Refusal) → x ≡ Refused n → s .0 .now ≡ a .0 .now)
+edit-refused κs a x s h p n e =
+    p .left
+    ∙ (ap stored (union.edit-refused (replicaOf (a .0 .now)) (editOf (a .1 .0 .now) (a .1 .1 .0) (a .1 .1 .1 .0) (a .1 .1 .1 .1 .0) (a .1 .1 .1 .1 .1 .0)) n (sym (p .answer) ∙ e))
+    ∙ sym (h .same))

@@ -1,5 +1,5 @@
 -- Calls of the compiled write and pull, by what they promise, and what each leaves of the replica that was held. Assumes nothing.
-use mathlib.Core.Path.{_≡_, sym, ap, _∙_, subst}
+use mathlib.Core.Path.{_≡_, refl, sym, ap, ap₂, _∙_, subst}
 use mathlib.Core.List.{List, [], _∷_}
 use Prim.Native.Nat.{ℕ}
 use contract.Lifetimes.{Lfts}
@@ -8,8 +8,10 @@ use borrow.Fn.Kinds.{Dens, endedOf}
 use Rattle.rules.specs.declared.Counts.{Counts}
 use Rattle.rules.specs.declared.Seq.{Seq}
 use Rattle.rules.specs.declared.Written.{Written}
+use Rattle.rules.specs.Replica.{Replica}
 use Rattle.rules.specs.Union.{writeAll, IsAccepted, AllAccepted}
 use Rattle.rules.specs.Write.{Write}
+use Rattle.union.specs.Said.{answers}
 use Rattle.store.specs.Storage.{replicaOf, IsStored}
 use Rattle.writes.specs.Judge.{Wrote}
 use Rattle.writes.specs.Path.{writeOf}
@@ -52,6 +54,11 @@ abbrev pub NoneRefused : (ws : List Write) (s left : List ℕ) → WriteCalls ws
 NoneRefused [] s left calls = Unit {0}
 NoneRefused (w ∷ ws) s left calls = IsAccepted (calls .0) × NoneRefused ws (calls .1) left (calls .3)
 
+-- what each of them answered
+abbrev pub answersOf : (ws : List Write) (s left : List ℕ) → WriteCalls ws s left → List Written
+answersOf [] s left calls = []
+answersOf (w ∷ ws) s left calls = calls .0 ∷ answersOf ws (calls .1) left (calls .3)
+
 -- ---- what a call leaves of the replica
 
 pub pulled : (s : List ℕ) (q : Seq) (t : List ℕ) (c : Counts) (left : List ℕ) → PullCall s q t c left → Pulled q s t c left
@@ -90,3 +97,12 @@ ran (w ∷ ws) s left k calls =
       is-stored = rest .is-stored;
       accepted = λ h. (subst IsAccepted (sym (d .answer)) (h .0), rest .accepted (subst (AllAccepted ws) (sym e) (h .1)));
     }
+
+-- and what they answer
+pub answered : (ws : List Write) (s left : List ℕ) (calls : WriteCalls ws s left) → answersOf ws s left calls ≡ answers (replicaOf s) ws
+unfolding answers
+answered [] s left calls = refl
+answered (w ∷ ws) s left calls =
+    let d = wrote s w (calls .0) (calls .1) (calls .2) in
+    ap₂ (λ (o : Written) (os : List Written). o ∷ os) (d .answer)
+    (answered ws (calls .1) left (calls .3) ∙ ap (λ (r : Replica). answers r ws) (d .means))

@@ -13,11 +13,12 @@ use Rattle.rules.specs.Read.{winner, documentsAfter}
 use Rattle.rules.specs.Replica.{Id, Document, Replica, fresh, documentOf, treeOf}
 use Rattle.rules.specs.Union.{In, given, held, both, IsUnion, SameButSeq, WellFormed, Compatible, Fits, Within, writeAll, IsAccepted, AllAccepted, SeqSuffices, allFrom}
 use Rattle.rules.specs.Write.{Write, write}
-use Rattle.union.specs.Said.{there, Agreed, total, leafCount}
+use Rattle.union.specs.Said.{there, Agreed, total, leafCount, answers, CountsEach}
 use Rattle.union.proofs.Demand3 as union
+use Rattle.union.proofs.Pulls.{pull-writes}
 use Rattle.store.specs.Storage.{replicaOf, stored, IsStored}
 use Rattle.store.proofs.StoredLaws.{stored-back, fresh-fits}
-use Rattle.pulls.proofs.Calls.{PullCall, WriteCalls, NoneRefused, pulled, Ran, ran}
+use Rattle.pulls.proofs.Calls.{PullCall, WriteCalls, NoneRefused, answersOf, pulled, Ran, ran, answered}
 
 -- ---- writes in any order, from fresh
 
@@ -114,6 +115,23 @@ pub counts-add-up : (s : List ℕ) (q : Seq) (t : List ℕ) (c : Counts) (left :
     → total c ≡ leafCount (documentsAfter q (replicaOf s .documents))
 counts-add-up s q t c left call =
     ap (λ (z : Counts). total z) (pulled s q t c left call .counts) ∙ union.counts-add-up q (replicaOf s) (replicaOf t)
+
+-- "each count is that of the offers one by one": it is how many of them, each made on what those before
+-- it left, were answered so
+pub counts-each : (s : List ℕ) (q : Seq) (t : List ℕ) (c : Counts) (left : List ℕ) → PullCall s q t c left
+    → CountsEach c (answers (replicaOf t) (offers q (replicaOf s)))
+counts-each s q t c left call = rw (pulled s q t c left call .counts) (union.counts-each q (replicaOf s) (replicaOf t))
+
+-- and so answers the compiled write, called for each offer in turn, which leaves the same bytes
+pub counts-calls : (s : List ℕ) (q : Seq) (t : List ℕ) (c : Counts) (left : List ℕ) → IsStored t → PullCall s q t c left
+    → (m : List ℕ) (calls : WriteCalls (offers q (replicaOf s)) t m)
+    → CountsEach c (answersOf (offers q (replicaOf s)) t m calls) × (left ≡ m)
+counts-calls s q t c left k call m calls =
+    let d = pulled s q t c left call in
+    let r = ran (offers q (replicaOf s)) t m k calls in (
+      rw (answered (offers q (replicaOf s)) t m calls) (counts-each s q t c left call),
+      d .bytes ∙ (ap stored (pull-writes q (replicaOf s) (replicaOf t) ∙ sym (r .replica)) ∙ sym (r .is-stored .same)),
+    )
 
 -- documents of the target that are not among the offered stay as they were
 pub pull-frame : (s : List ℕ) (q : Seq) (t : List ℕ) (c : Counts) (left : List ℕ) → PullCall s q t c left

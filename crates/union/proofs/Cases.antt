@@ -2,6 +2,9 @@
 use mathlib.Core.Path.{_≡_, refl, sym, _∙_, subst}
 use mathlib.Core.Bool.{Bool, true, false}
 use mathlib.Core.Option.{Option, none, some}
+use Prim.Native.Nat.{ℕ}
+use native.Mathlib.Omega.{arith}
+use Rattle.rules.specs.declared.Edited.{Edited}
 use Rattle.rules.specs.declared.Edited.the-variants as edited
 use Rattle.rules.specs.declared.Order.{Order}
 use Rattle.rules.specs.declared.Order.the-variants.{Less, Equal, Greater}
@@ -70,3 +73,34 @@ edit-by r e P h f = go (firstThat (editRefusals r e)) refl
         → P (settle edited.Refused r (edited.Accepted (newNumber r e), added r (asWrite r e)) o .1)
     go (some n) q = h
     go none q = f q
+
+-- a write that doesn't answer "changed" leaves what was held: one that is refused, and one that adds nothing
+pub write-stays : (r : Replica) (w : Write) → (write r w .0 ≡ Accepted Changed → ⊥) → write r w .1 ≡ r
+unfolding write
+write-stays r w = go (firstThat (writeRefusals r w)) (adds r w)
+  where
+    left : Bool → Written × Replica
+    left b = pick b (Accepted Changed, added r w) (Accepted Unchanged, r)
+
+    go : (o : Option Refusal) (b : Bool) → (settle Refused r (left b) o .0 ≡ Accepted Changed → ⊥) → settle Refused r (left b) o .1 ≡ r
+    go (some m) b n = refl
+    go none true n = absurd (n refl)
+    go none false n = refl
+
+pub write-refused : (r : Replica) (w : Write) (n : Refusal) → write r w .0 ≡ Refused n → write r w .1 ≡ r
+write-refused r w n e = write-stays r w (λ q. let z : _≡_ {A = ℕ} 0 1 = cc in omega arith)
+
+pub write-unchanged : (r : Replica) (w : Write) → write r w .0 ≡ Accepted Unchanged → write r w .1 ≡ r
+write-unchanged r w e = write-stays r w (λ q. let z : _≡_ {A = ℕ} 0 1 = cc in omega arith)
+
+-- so does a refused edit
+pub edit-refused : (r : Replica) (e : Edit) (n : Refusal) → edit r e .0 ≡ edited.Refused n → edit r e .1 ≡ r
+unfolding edit
+edit-refused r e n = go (firstThat (editRefusals r e))
+  where
+    left : Edited × Replica
+    left = (edited.Accepted (newNumber r e), added r (asWrite r e))
+
+    go : (o : Option Refusal) → settle edited.Refused r left o .0 ≡ edited.Refused n → settle edited.Refused r left o .1 ≡ r
+    go (some m) q = refl
+    go none q = absurd (let z : _≡_ {A = ℕ} 0 1 = cc in omega arith)

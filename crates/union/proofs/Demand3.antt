@@ -5,9 +5,11 @@ use mathlib.Core.List.{List, _++_}
 use mathlib.Core.Logic.{_↔_}
 use mathlib.Core.Option.{none}
 use lib.ListN.{length}
-use Rattle.rules.specs.declared.Outcome.the-variants.{Changed}
+use Rattle.rules.specs.declared.Edited.the-variants as edited
+use Rattle.rules.specs.declared.Outcome.the-variants.{Changed, Unchanged}
+use Rattle.rules.specs.declared.Refusal.{Refusal}
 use Rattle.rules.specs.declared.Seq.{Seq}
-use Rattle.rules.specs.declared.Written.the-variants.{Accepted}
+use Rattle.rules.specs.declared.Written.the-variants.{Accepted, Refused}
 use Rattle.rules.specs.Choice.{firstThat}
 use Rattle.rules.specs.Edit.{Edit, asWrite, editRefusals, edit}
 use Rattle.rules.specs.Pull.{offers, pull}
@@ -15,7 +17,8 @@ use Rattle.rules.specs.Read.{winner, documentsAfter}
 use Rattle.rules.specs.Replica.{Id, Document, Replica, fresh, documentOf, treeOf, IsReplica}
 use Rattle.rules.specs.Union.{In, given, held, IsUnion, SameButSeq, IsWrite, WellFormed, Compatible, Fits, Within, writeAll, AllAccepted, SeqSuffices, allFrom}
 use Rattle.rules.specs.Write.{Write, adds, writeRefusals, write}
-use Rattle.union.specs.Said.{IsEdit, Knows, Leaves, there, Agreed, total, leafCount}
+use Rattle.union.specs.Said.{IsEdit, Knows, Leaves, there, Agreed, total, leafCount, answers, CountsEach}
+use Rattle.union.proofs.Cases as cases
 use Rattle.union.proofs.Orders as orders
 use Rattle.union.proofs.Frame as frame
 use Rattle.union.proofs.Keeps as keep
@@ -50,6 +53,16 @@ leaves-one = one.leaves-one
 -- "Where nothing was added": the test that decides it says that all revisions and parents given are known
 pub adds-nothing : (r : Replica) (w : Write) → IsReplica r → firstThat (writeRefusals r w) ≡ none → (adds r w ≡ false) ↔ Knows r w
 adds-nothing = one.adds-nothing
+
+-- "A refusal .. alters neither replica nor buffer", and "unchanged" says that nothing was altered
+pub write-refused : (r : Replica) (w : Write) (n : Refusal) → write r w .0 ≡ Refused n → write r w .1 ≡ r
+write-refused = cases.write-refused
+
+pub write-unchanged : (r : Replica) (w : Write) → write r w .0 ≡ Accepted Unchanged → write r w .1 ≡ r
+write-unchanged = cases.write-unchanged
+
+pub edit-refused : (r : Replica) (e : Edit) (n : Refusal) → edit r e .0 ≡ edited.Refused n → edit r e .1 ≡ r
+edit-refused = cases.edit-refused
 
 -- "An accepted edit leaves what the path write of the new revision and its parent, if any, would
 -- leave": and that write is accepted and changes
@@ -106,7 +119,12 @@ two-way-made = ways.two-way-made
 pub counts-add-up : (s : Seq) (source target : Replica) → total (pull s source target .0) ≡ leafCount (documentsAfter s (source .documents))
 counts-add-up = pulls.counts-leaves
 
--- "each count is that of the offers one by one": together they count every offer
+-- "each count is that of the offers one by one": it is how many of them, each made on what those before
+-- it left, were answered so
+pub counts-each : (s : Seq) (source target : Replica) → CountsEach (pull s source target .0) (answers target (offers s source))
+counts-each = pulls.counts-each
+
+-- together they count every offer
 pub counts-offers : (s : Seq) (source target : Replica) → total (pull s source target .0) ≡ length (offers s source)
 counts-offers = pulls.counts-total
 

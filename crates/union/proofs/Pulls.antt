@@ -4,7 +4,7 @@ use mathlib.Core.Bool.{Bool, true, false}
 use mathlib.Core.List.{List, [], _∷_, _++_, map}
 use mathlib.Core.Logic.{inl, inr}
 use mathlib.Core.Option.{Option, none, some}
-use Prim.Native.Nat.{suc, _+_, _≤_}
+use Prim.Native.Nat.{ℕ, suc, _+_, _≤_}
 use native.Mathlib.Omega.{arith}
 use lib.Dec.{leb, ltb}
 use lib.ListN.{length, length-append}
@@ -20,7 +20,7 @@ use Rattle.rules.specs.Read.{leaves, insertBySeq, documentsAfter}
 use Rattle.rules.specs.Replica.{Id, Tree, Document, Replica, documentOf, revisionsHeld, IsReplica}
 use Rattle.rules.specs.Union.{In, Things, held, both, IsUnion, Within, Compatible, Fits, writeAll, AllAccepted, SeqSuffices, allFrom}
 use Rattle.rules.specs.Write.{Write, write}
-use Rattle.union.specs.Said.{total, leafCount}
+use Rattle.union.specs.Said.{total, leafCount, answers, isChanged, isUnchanged, isRefused, howMany, CountsEach}
 use Rattle.union.proofs.Lists.{map-in}
 use Rattle.union.proofs.Trees.{Entry}
 use Rattle.union.proofs.Sets.{Both, Plus, both-from, both-to, both-within, closed-both, compatible-within, fits-within, things, within-all, within-sub}
@@ -49,6 +49,40 @@ take-in-total (w ∷ ws) c r =
 pub counts-total : (s : Seq) (source target : Replica) → total (pull s source target .0) ≡ length (offers s source)
 unfolding pull
 counts-total s source target = let h = take-in-total (offers s source) noCounts target in omega arith
+
+-- a count that rises by one at each answer of its kind, and only there, is what it was and how many there are
+take-in-each : (f : Counts → ℕ) (is : Written → Bool) → ((o : Written) (c : Counts) → f (count o c) ≡ pick (is o) 1 0 + f c)
+    → (ws : List Write) (c : Counts) (r : Replica) → f (take-in ws (c, r) .0) ≡ howMany is (answers r ws) + f c
+unfolding take-in answers howMany
+take-in-each f is one [] c r = omega arith
+take-in-each f is one (w ∷ ws) c r =
+    let o = write r w in let a = take-in-each f is one ws (count (o .0) c) (o .1) in let b = one (o .0) c in omega arith
+
+changed-one : (o : Written) (c : Counts) → count o c .changed ≡ pick (isChanged o) 1 0 + c .changed
+unfolding count
+changed-one (Accepted Changed) c = omega arith
+changed-one (Accepted Unchanged) c = omega arith
+changed-one (Refused n) c = omega arith
+
+unchanged-one : (o : Written) (c : Counts) → count o c .unchanged ≡ pick (isUnchanged o) 1 0 + c .unchanged
+unfolding count
+unchanged-one (Accepted Changed) c = omega arith
+unchanged-one (Accepted Unchanged) c = omega arith
+unchanged-one (Refused n) c = omega arith
+
+refused-one : (o : Written) (c : Counts) → count o c .refused ≡ pick (isRefused o) 1 0 + c .refused
+unfolding count
+refused-one (Accepted Changed) c = omega arith
+refused-one (Accepted Unchanged) c = omega arith
+refused-one (Refused n) c = omega arith
+
+pub counts-each : (s : Seq) (source target : Replica) → CountsEach (pull s source target .0) (answers target (offers s source))
+unfolding pull
+counts-each s source target =
+    let a = take-in-each (λ c. c .changed) isChanged changed-one (offers s source) noCounts target in
+    let b = take-in-each (λ c. c .unchanged) isUnchanged unchanged-one (offers s source) noCounts target in
+    let c = take-in-each (λ c. c .refused) isRefused refused-one (offers s source) noCounts target in
+    record { changed = omega arith; unchanged = omega arith; refused = omega arith }
 
 length-map : {A B : Type 0} (f : A → B) (xs : List A) → length (map f xs) ≡ length xs
 length-map f [] = refl

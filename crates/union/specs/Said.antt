@@ -1,20 +1,24 @@
 -- What the theorems say of an edit, of one write and of pulls, in the words of rules.
 use mathlib.Core.Path.{_≡_}
-use mathlib.Core.Bool.{true, false}
+use mathlib.Core.Bool.{Bool, true, false}
 use mathlib.Core.List.{List, [], _∷_}
 use mathlib.Core.Option.{some}
 use Prim.Native.Nat.{ℕ, _+_}
 use lib.ListN.{length}
 use Rattle.rules.specs.declared.Counts.{Counts}
+use Rattle.rules.specs.declared.Outcome.the-variants.{Changed, Unchanged}
 use Rattle.rules.specs.declared.Revision.{Revision}
+use Rattle.rules.specs.declared.Written.{Written}
+use Rattle.rules.specs.declared.Written.the-variants.{Accepted, Refused}
 use Rattle.rules.specs.Bytes.{Bytes}
+use Rattle.rules.specs.Choice.{pick}
 use Rattle.rules.specs.Edit.{Edit}
 use Rattle.rules.specs.Pull.{offers, pull}
 use Rattle.rules.specs.Read.{leaves, winner}
 use Rattle.rules.specs.Replica.{Id, Document, Replica, documentOf, treeOf, IsContent}
 use Rattle.rules.specs.Room.{hashSize}
 use Rattle.rules.specs.Union.{given, held, both, IsUnion, SameButSeq, AllAccepted, allFrom}
-use Rattle.rules.specs.Write.{Write, next, adds}
+use Rattle.rules.specs.Write.{Write, next, adds, write}
 
 -- what a call of an edit can be given: bytes, a hash of sixteen and a label in range
 pub record IsEdit (e : Edit) : Type 0 where
@@ -65,3 +69,32 @@ total c = c .changed + c .unchanged + c .refused
 unfoldable pub leafCount : List (Id × Document) → ℕ
 leafCount [] = 0
 leafCount (d ∷ ds) = length (leaves (d .1 .tree)) + leafCount ds
+
+-- what writes answer "one by one": each is made on what those before it left
+unfoldable pub answers : Replica → List Write → List Written
+answers r [] = []
+answers r (w ∷ ws) = write r w .0 ∷ answers (write r w .1) ws
+
+abbrev pub isChanged : Written → Bool
+isChanged (Accepted Changed) = true
+isChanged (Accepted Unchanged) = false
+isChanged (Refused n) = false
+
+abbrev pub isUnchanged : Written → Bool
+isUnchanged (Accepted Changed) = false
+isUnchanged (Accepted Unchanged) = true
+isUnchanged (Refused n) = false
+
+abbrev pub isRefused : Written → Bool
+isRefused (Accepted o) = false
+isRefused (Refused n) = true
+
+unfoldable pub howMany : (Written → Bool) → List Written → ℕ
+howMany is [] = 0
+howMany is (o ∷ os) = pick (is o) 1 0 + howMany is os
+
+-- "each count is that of the offers one by one": how many of them were answered so
+pub record CountsEach (c : Counts) (os : List Written) : Type 0 where
+  pub changed : c .changed ≡ howMany isChanged os
+  pub unchanged : c .unchanged ≡ howMany isUnchanged os
+  pub refused : c .refused ≡ howMany isRefused os

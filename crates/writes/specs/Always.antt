@@ -14,3 +14,11 @@ module _ (n : ℕ) (ps : List (PK n)) (r : RK n) where
       → asked κs a
       → learnt κs a x s
       → says κs a s
+
+  -- the same where what holds goes by the answer
+  abbrev pub AlwaysBy : In n ps → Out n ps r → ((κs : Lfts n) → Dens κs ps → resT r κs .Denot → AtExit (endedOf n ps r) κs → Type 0) → Type 0
+  AlwaysBy asked learnt says =
+      (κs : Lfts n) (a : Dens κs ps) (x : resT r κs .Denot) (s : AtExit (endedOf n ps r) κs)
+      → asked κs a
+      → learnt κs a x s
+      → says κs a x s
