@@ -6,6 +6,8 @@ use crate::number::BAD_KIND;
 use crate::number::BAD_LABEL;
 use crate::number::BAD_NO_PARENT;
 use crate::number::BAD_REPLICA;
+use crate::number::DELETED;
+use crate::number::LIVE;
 use crate::number::SHORT_ANSWER;
 use crate::number::answered;
 use crate::number::content_from;
@@ -31,7 +33,10 @@ ghost use Rattle.rules.specs.Replica.{revision};
 ghost use Rattle.rules.specs.Room.{hashSize};
 ghost use Rattle.refile.specs.Boundary.{Calls, House, Lent, badKind, badLabel, parentHouse, editHouse, parentFrom, freshCall, loadCall, saveCall, writeCall, editCall, pullCall};
 
+// A hash, and what pull writes to its answer: three numbers.
 const HASH: usize = 16;
+
+const COUNTS: usize = 12;
 
 #[no_mangle]
 pub extern "C" fn refile_fresh(replica: &mut [u8]) -> u64
@@ -69,10 +74,10 @@ pub extern "C" fn refile_save(replica: &[u8], out: &mut [u8]) -> u64
 fn bad_content(kind: u32, label: u64) -> u64
     ensures { λ n. ⌜ House (badKind kind ∷ badLabel kind label ∷ []) n ⌝ }
 {
-    if kind == 1 {
+    if kind == LIVE {
         return 0;
     }
-    if kind != 2 {
+    if kind != DELETED {
         return BAD_KIND;
     }
     if label != 0 {
@@ -182,9 +187,6 @@ pub extern "C" fn refile_edit(
     let rev = parent_from(named, number, parent);
     edited(edit(replica, id, new, content, named == 1, rev))
 }
-
-// What pull writes to its answer: three numbers.
-const COUNTS: usize = 12;
 
 #[no_mangle]
 pub extern "C" fn refile_pull(

@@ -26,6 +26,11 @@ pub(crate) const BAD_HASH: u64 = 104;
 
 pub(crate) const BAD_NO_PARENT: u64 = 105;
 
+// The kinds of content, as in an image row.
+pub(crate) const LIVE: u32 = 1;
+
+pub(crate) const DELETED: u32 = 2;
+
 // An answer buffer that is too short.
 pub(crate) const SHORT_ANSWER: u64 = 14;
 
@@ -114,11 +119,11 @@ pub(crate) fn loaded(a: Loaded) -> u64
     }
 }
 
-// The content that a kind and a label are: 1 is live, any other kind a deletion.
+// The content that a kind and a label are: any kind but live is a deletion.
 pub(crate) fn content_from(kind: u32, label: u64) -> Content
     ensures { λ r. ⌜ r ≡ contentFrom kind label ⌝ }
 {
-    if kind == 1 {
+    if kind == LIVE {
         return Content::Live(label);
     }
     Content::Deleted
