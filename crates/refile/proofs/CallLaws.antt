@@ -2,15 +2,15 @@
 use mathlib.Core.Path.{_≡_, refl, sym, ap, _∙_}
 use mathlib.Core.Bool.{Bool, true, false, not}
 use mathlib.Core.List.{List, [], _∷_}
-use Prim.Native.Nat.{ℕ, zero, suc}
+use Prim.Native.Nat.{ℕ, zero, suc, _<_}
 use lib.ListN.{length}
 use borrow.Author.Tests.{eq-eqb, ne-eqb}
 use native.Mathlib.Omega.{arith}
 use Rattle.rules.specs.Answer.{Numbered, refused}
 use Rattle.rules.specs.Choice.{firstThat}
 use Rattle.rules.proofs.OutcomeLaws.{fixed}
-use Rattle.store.specs.Storage.{storeSize}
-use Rattle.refile.specs.Boundary.{result, call, Calls, House, badReplica}
+use Rattle.store.specs.Storage.{storeSize, IsStored}
+use Rattle.refile.specs.Boundary.{result, call, Calls, Keeps, House, badReplica}
 
 module _ {L : Type 0} (lent : L) (o : Numbered × L) where
   -- a house refusal whose test holds stops the call
@@ -56,6 +56,22 @@ module _ {L : Type 0} (lent : L) (o : Numbered × L) where
 pub made : {L : Type 0} {p : ℕ × L} {x r : ℕ} {l left : L} → p ≡ (x, l) → r ≡ x → left ≡ l → Calls p r left
 made e f g = record { answers = f ∙ sym (ap (λ p. p .0) e); leaves = g ∙ sym (ap (λ p. p .1) e) }
 
+-- a refusal's result is at or above 2^63
+pub refused-high : (n r : ℕ) → (n ≡ 0 → ⊥) → r ≡ result (refused n) → r < 9223372036854775808 → ⊥
+refused-high zero r ne e h = ne refl
+refused-high (suc n) r ne e h = omega arith
+
+-- a call that refuses, and one that accepts and leaves a replica
+pub refuses : {L : Type 0} {p : ℕ × L} (n : ℕ) {r : ℕ} {l left : L} {replica : List ℕ} → p ≡ (result (refused n), l) → (n ≡ 0 → ⊥) → r ≡ result (refused n) → left ≡ l
+    → Keeps p r left replica
+refuses n {r} e ne f g = record { calls = made e f g; stands = λ h. absurd (refused-high n r ne f h) }
+
+pub accepts : {L : Type 0} {p : ℕ × L} {r : ℕ} {left : L} {replica : List ℕ} → Calls p r left → IsStored replica → Keeps p r left replica
+accepts c is = record { calls = c; stands = λ h. is }
+
 -- a call has one outcome
 pub calls-one : {L : Type 0} {o : ℕ × L} {x y : ℕ} {s t : L} → Calls o x s → Calls o y t → (x ≡ y) × (s ≡ t)
 calls-one p q = (fixed (p .answers) (q .answers), fixed (p .leaves) (q .leaves))
+
+pub keeps-one : {L : Type 0} {o : ℕ × L} {x y : ℕ} {s t : L} {a b : List ℕ} → Keeps o x s a → Keeps o y t b → (x ≡ y) × (s ≡ t)
+keeps-one p q = calls-one (p .calls) (q .calls)

@@ -13,7 +13,9 @@ use Rattle.rules.specs.declared.Content.{Content}
 use Rattle.rules.specs.declared.Counts.{Counts}
 use Rattle.rules.specs.declared.Edited.{Edited}
 use Rattle.rules.specs.declared.Fault.{Fault}
+use Rattle.rules.specs.declared.Fault.the-variants.{TooShort, BadEdition, BadHead, BadContents, BadSequence, BadRow, BadParent}
 use Rattle.rules.specs.declared.Loaded.{Loaded}
+use Rattle.rules.specs.declared.Loaded.the-variants as loaded
 use Rattle.rules.specs.declared.Revision.{Revision}
 use Rattle.rules.specs.declared.RevNumber.{RevNumber}
 use Rattle.rules.specs.declared.Written.{Written}
@@ -23,10 +25,12 @@ use Rattle.rules.specs.Choice.{pick, firstThat}
 use Rattle.rules.specs.Image.{faults}
 use Rattle.rules.specs.Pull.{pull}
 use Rattle.rules.specs.Read.{front}
-use Rattle.rules.specs.Replica.{Replica, revision}
+use Rattle.rules.specs.Replica.{Replica, revision, fresh}
 use Rattle.rules.specs.Room.{hashSize}
 use Rattle.octets.specs.Octets.{IsHash}
-use Rattle.store.specs.Storage.{storeSize, replicaOf}
+use Rattle.union.proofs.Demand3.{fresh-is-replica}
+use Rattle.store.specs.Change.{Holds}
+use Rattle.store.specs.Storage.{storeSize, replicaOf, IsStored}
 use Rattle.writes.specs.Judge.{Wrote}
 use Rattle.writes.specs.Edit.{editOf}
 use Rattle.writes.specs.Path.{writeOf}
@@ -35,9 +39,9 @@ use Rattle.reads.proofs.AnswerLaws.{first-past, first-some}
 use Rattle.report.proofs.FaultLaws.{place-most}
 use Rattle.codec.specs.Codec.{loadBytes, Loads}
 use Rattle.pulls.specs.Pulls.{Pulled}
-use Rattle.refile.specs.Boundary.{result, SmallPlace, call, Calls, House, firstHouse, badReplica, badKind, badLabel, badFlag, badHash, badNoParent, parentHouse, editHouse, shortAnswer, contentFrom, parentFrom, countBytes, loadCall, editCall, pullCall}
+use Rattle.refile.specs.Boundary.{result, SmallPlace, call, Keeps, House, firstHouse, badReplica, badKind, badLabel, badFlag, badHash, badNoParent, parentHouse, editHouse, shortAnswer, contentFrom, parentFrom, countBytes, loadCall, editCall, pullCall}
 use Rattle.refile.proofs.AnswerLaws.{short-answer, room-answer}
-use Rattle.refile.proofs.CallLaws.{good-size, sized, house-stops, house-passes, made}
+use Rattle.refile.proofs.CallLaws.{good-size, sized, house-stops, house-passes, made, refuses, accepts}
 
 -- ---- the house refusals of a content
 
@@ -174,20 +178,20 @@ pub parent-is-none : (f : ℕ) (v w : Revision) → (f ≡ 1 → ⊥) → parent
 parent-is-none f v w ne = rw (ne-eqb f 1 ne)
 
 module _ (s i hash : List ℕ) (k l f n : ℕ) (parent : List ℕ) (size : length s ≡ storeSize) where
-  pub edit-refused : (m r : ℕ) → House (editHouse hash k l f n parent) m → (m ≡ 0 → ⊥) → r ≡ result (refused m) → Calls (editCall s i hash k l f n parent) r s
+  pub edit-refused : (m r : ℕ) → House (editHouse hash k l f n parent) m → (m ≡ 0 → ⊥) → r ≡ result (refused m) → Keeps (editCall s i hash k l f n parent) r s s
   unfolding editCall
-  edit-refused m r h ne e = made (good-size s _ s _ size ∙ house-stops s _ _ m h ne) e refl
+  edit-refused m r h ne e = refuses m (good-size s _ s _ size ∙ house-stops s _ _ m h ne) ne e refl
 
   pub edit-done : (m : ℕ) (h : List ℕ) (c : Content) (v : Revision) (a : Edited) (left : List ℕ) (r : ℕ) → House (editHouse hash k l f n parent) m → m ≡ 0
       → IsHash hash 0 h → c ≡ contentFrom k l → parentFrom f v ≡ parentFrom f (revision n parent)
-      → EditDone s (editOf i h c (eqb f 1) v) a left → r ≡ result (editedNumber a) → Calls (editCall s i hash k l f n parent) r left
+      → EditDone s (editOf i h c (eqb f 1) v) a left → r ≡ result (editedNumber a) → Keeps (editCall s i hash k l f n parent) r left left
   unfolding editCall part
   edit-done m h c v a left r house z j e p d q =
       let same : h ≡ hash = j .is ∙ take-all 16 hash (let x = edit-hash-size hash k l f n parent m house z in omega arith) in
       let whole : editOf i h c (eqb f 1) v ≡ record { id = i; hash = hash; content = contentFrom k l; parent = parentFrom f (revision n parent) }
       = λ x. record { id = i; hash = same x; content = e x; parent = p x } in
       let w : EditDone s (record { id = i; hash = hash; content = contentFrom k l; parent = parentFrom f (revision n parent) }) a left = rw whole at d in
-      made (good-size s _ s _ size ∙ house-passes s _ _ m house z) (q ∙ ap (λ (x : Edited). result (editedNumber x)) (w .answer)) (w .left)
+      accepts (made (good-size s _ s _ size ∙ house-passes s _ _ m house z) (q ∙ ap (λ (x : Edited). result (editedNumber x)) (w .answer)) (w .left)) (w .is)
 
 -- ---- the path write
 
@@ -196,7 +200,10 @@ pub wrote-content : (s i : List ℕ) (n : RevNumber) (p : List ℕ) (c d : Conte
     → Wrote s (writeOf i n p c) a left → Wrote s (writeOf i n p d) a left
 wrote-content s i n p c d a left e h = rw e at h
 
--- ---- load
+-- ---- fresh and load
+
+pub fresh-stands : (s : List ℕ) → Holds fresh s → IsStored s
+fresh-stands s h = record { same = h .laid .same; replica = rw (h .means) fresh-is-replica }
 
 -- no fault lies far in
 pub loaded-small : (before image : List ℕ) (answer : Loaded) (after : List ℕ) → Loads before image answer after → SmallPlace answer
@@ -206,11 +213,27 @@ loaded-small before image answer after l = rw (l .does .answers) (go (firstThat 
     go none e = tt
     go (some f) e = let m = place-most image f e in omega arith
 
+-- a result below 2^63 is not that of a fault
+loaded-accepted : (a : Loaded) (r : ℕ) → r ≡ result (loadedNumber a) → r < 9223372036854775808 → a ≡ loaded.Accepted
+loaded-accepted loaded.Accepted r e h = refl
+loaded-accepted (loaded.Refused f p) r e h = absurd (high f e)
+  where
+    high : (f : Fault) → r ≡ result (loadedNumber (loaded.Refused f p)) → ⊥
+    high TooShort q = omega arith
+    high BadEdition q = omega arith
+    high BadHead q = omega arith
+    high BadContents q = omega arith
+    high BadSequence q = omega arith
+    high BadRow q = omega arith
+    high BadParent q = omega arith
+
 pub loads-on : (s image : List ℕ) (answer : Loaded) (left : List ℕ) (r : ℕ) → length s ≡ storeSize → Loads s image answer left → r ≡ result (loadedNumber answer)
-    → Calls (loadCall s image) r left
+    → Keeps (loadCall s image) r left left
 unfolding loadCall
-loads-on s image answer left r size l e =
-    made (sized s _ s size) (e ∙ ap (λ (a : Loaded). result (loadedNumber a)) (l .does .answers)) (l .does .leaves)
+loads-on s image answer left r size l e = record {
+  calls = made (sized s _ s size) (e ∙ ap (λ (a : Loaded). result (loadedNumber a)) (l .does .answers)) (l .does .leaves);
+  stands = λ h. l .accepted (loaded-accepted answer r e h);
+}
 
 -- ---- pull
 
@@ -221,15 +244,15 @@ module _ (t s answer : List ℕ) (q : ℕ) (tsize : length t ≡ storeSize) (ssi
   sizes-pass : (o : Numbered × (List ℕ × List ℕ)) → call (badReplica t ∷ badReplica s ∷ []) (t, answer) o ≡ (result (o .0), o .1)
   sizes-pass o = good-size (t, answer) o t (badReplica s ∷ []) tsize ∙ sized (t, answer) o s ssize
 
-  pub pull-short : (r : ℕ) → length answer < 12 → r ≡ result (refused 14) → Calls (pullCall t s q answer) r (t, answer)
+  pub pull-short : (r : ℕ) → length answer < 12 → r ≡ result (refused 14) → Keeps (pullCall t s q answer) r (t, answer) t
   unfolding pullCall countBytes shortAnswer
   pull-short r h e =
-      made (sizes-pass _ ∙ ap (λ (o : Numbered × (List ℕ × List ℕ)). (result (o .0), o .1)) (short-answer _ _ _ answer h)) e refl
+      refuses 14 (sizes-pass _ ∙ ap (λ (o : Numbered × (List ℕ × List ℕ)). (result (o .0), o .1)) (short-answer _ _ _ answer h)) (λ z. omega arith) e refl
 
   pub pull-done : (c : Counts) (left answer′ : List ℕ) → 12 ≤ length answer → Pulled (record { 0 = q }) s t c left → answer′ ≡ front (countBytes c) answer
-      → Calls (pullCall t s q answer) 0 (left, answer′)
+      → Keeps (pullCall t s q answer) 0 (left, answer′) left
   unfolding pullCall countBytes
   pull-done c left answer′ h p e =
       let b = p .bytes in
       let f : answer′ ≡ front (countBytes (pulled .0)) answer = e ∙ ap (λ (n : Counts). front (countBytes n) answer) (p .counts) in
-      made (sizes-pass _ ∙ ap (λ (o : Numbered × (List ℕ × List ℕ)). (result (o .0), o .1)) (room-answer _ _ _ answer h)) refl (λ i. (b i, f i))
+      accepts (made (sizes-pass _ ∙ ap (λ (o : Numbered × (List ℕ × List ℕ)). (result (o .0), o .1)) (room-answer _ _ _ answer h)) refl (λ i. (b i, f i))) (p .is-stored)

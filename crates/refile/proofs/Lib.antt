@@ -5,3 +5,6 @@ pub mod AnswerLaws
 pub mod ChangeLaws
 pub mod ReadCallLaws
 pub mod Outcomes
+pub mod FairLaws
+pub mod Decode
+pub mod Keeps

@@ -4,7 +4,7 @@ use mathlib.Core.List.{List}
 use Prim.Native.Nat.{ℕ}
 use Rattle.rules.specs.Outcome.{OneOutcome, nothing}
 use Rattle.rules.proofs.OutcomeLaws.{fixed}
-use Rattle.refile.proofs.CallLaws.{calls-one}
+use Rattle.refile.proofs.CallLaws.{calls-one, keeps-one}
 use Rattle.refile.proofs.change.refile_fresh.Kinds as fresh
 use Rattle.refile.proofs.change.refile_fresh.Reads as fresh'
 use Rattle.refile.proofs.change.refile_load.Kinds as load
@@ -35,24 +35,24 @@ use Rattle.refile.proofs.read.refile_update_sequence.Kinds as sequence
 use Rattle.refile.proofs.read.refile_update_sequence.Reads as sequence'
 
 pub refile-fresh-outcome : OneOutcome _ fresh.ps fresh.r fresh'.Asked fresh'.Learnt (λ κs s. s .0 .now)
-refile-fresh-outcome κs a x y s t h p q = calls-one p q
+refile-fresh-outcome κs a x y s t h p q = keeps-one p q
 
 pub refile-load-outcome : OneOutcome _ load.ps load.r load'.Asked load'.Learnt (λ κs s. s .0 .now)
-refile-load-outcome κs a x y s t h p q = calls-one p q
+refile-load-outcome κs a x y s t h p q = keeps-one p q
 
 pub refile-save-outcome : OneOutcome _ save.ps save.r save'.Asked save'.Learnt (λ κs s. s .1 .0 .now)
 refile-save-outcome κs a x y s t h p q = calls-one p q
 
 pub refile-write-outcome : OneOutcome _ write.ps write.r write'.Asked write'.Learnt (λ κs s. s .0 .now)
-refile-write-outcome κs a x y s t h p q = calls-one p q
+refile-write-outcome κs a x y s t h p q = keeps-one p q
 
 pub refile-edit-outcome : OneOutcome _ edit.ps edit.r edit'.Asked edit'.Learnt (λ κs s. s .0 .now)
-refile-edit-outcome κs a x y s t h p q = calls-one p q
+refile-edit-outcome κs a x y s t h p q = keeps-one p q
 
 -- both the target and the answer
 pub refile-pull-outcome :
     OneOutcome _ pull.ps pull.r pull'.Asked pull'.Learnt {X = List ℕ × List ℕ} (λ κs s. (s .0 .now, s .1 .1 .1 .0 .now))
-refile-pull-outcome κs a x y s t h p q = calls-one p q
+refile-pull-outcome κs a x y s t h p q = keeps-one p q
 
 pub refile-update-sequence-outcome : OneOutcome _ sequence.ps sequence.r sequence'.Asked sequence'.Learnt nothing
 refile-update-sequence-outcome κs a x y s t h p q = (fixed p q, refl)

@@ -17,7 +17,7 @@ use Rattle.rules.specs.declared.Held.{Held}
 use Rattle.rules.specs.declared.Loaded.{Loaded}
 use Rattle.rules.specs.declared.Loaded.the-variants as loaded
 use Rattle.rules.specs.declared.Revision.{Revision}
-use Rattle.rules.specs.Answer.{Numbered, accepted, refused, writtenNumber, editedNumber, answeredNumber, loadedNumber}
+use Rattle.rules.specs.Answer.{Numbered, accepted, refused, writtenNumber, editedNumber, answeredNumber, changesNumber, loadedNumber}
 use Rattle.rules.specs.Bytes.{be}
 use Rattle.rules.specs.Choice.{pick, maybe, firstThat}
 use Rattle.rules.specs.Edit.{Edit, edit}
@@ -82,6 +82,11 @@ call house lent o = maybe (result (o .0), o .1) (λ n. (result (refused n), lent
 pub record Calls {L : Type 0} (o : ℕ × L) (r : ℕ) (left : L) : Type 0 where
   pub answers : r ≡ o .0
   pub leaves : left ≡ o .1
+
+-- such a call of what is lent a replica's buffer: where it accepts, it leaves a replica there
+pub record Keeps {L : Type 0} (o : ℕ × L) (r : ℕ) (left : L) (replica : List ℕ) : Type 0 where
+  pub calls : Calls o r left
+  pub stands : r < 9223372036854775808 → IsStored replica
 
 -- the number of the first house refusal, 0 if there is none
 abbrev pub firstHouse : ℕ → Option ℕ
@@ -181,9 +186,10 @@ changeBytes c = numbers (c .«id_len» ∷ c .seq .0 ∷ c .leaves ∷ flagNumbe
 -- both buffers as they are left: the one of the id and the one of the answer
 abbrev pub changesAs : List ℕ → List ℕ → Changes × List ℕ → Numbered × (List ℕ × List ℕ)
 changesAs out answer (changes.Next c, left) =
-    pick (ltb (length answer) (length (changeBytes c))) (shortAnswer, (out, answer)) (accepted 1, (left, front (changeBytes c) answer))
-changesAs out answer (changes.NoMore, left) = (accepted 0, (out, answer))
-changesAs out answer (changes.Refused n, left) = (refused (refusalNumber n), (out, answer))
+    pick (ltb (length answer) (length (changeBytes c))) (shortAnswer, (out, answer))
+    (changesNumber (changes.Next c), (left, front (changeBytes c) answer))
+changesAs out answer (changes.NoMore, left) = (changesNumber changes.NoMore, (out, answer))
+changesAs out answer (changes.Refused n, left) = (changesNumber (changes.Refused n), (out, answer))
 
 unfoldable pub changesCall : List ℕ → ℕ → List ℕ → List ℕ → ℕ × (List ℕ × List ℕ)
 changesCall s after out answer =

@@ -31,7 +31,7 @@ ghost use mathlib.Core.List.{[], _∷_};
 ghost use lib.ListN.{length};
 ghost use Rattle.rules.specs.Replica.{revision};
 ghost use Rattle.rules.specs.Room.{hashSize};
-ghost use Rattle.refile.specs.Boundary.{Calls, House, Lent, badKind, badLabel, parentHouse, editHouse, parentFrom, freshCall, loadCall, saveCall, writeCall, editCall, pullCall};
+ghost use Rattle.refile.specs.Boundary.{Calls, Keeps, House, Lent, badKind, badLabel, parentHouse, editHouse, parentFrom, freshCall, loadCall, saveCall, writeCall, editCall, pullCall};
 
 // A hash, and what pull writes to its answer: three numbers.
 const HASH: usize = 16;
@@ -40,7 +40,7 @@ const COUNTS: usize = 12;
 
 #[no_mangle]
 pub extern "C" fn refile_fresh(replica: &mut [u8]) -> u64
-    ensures { λ r. ⌜ Calls (freshCall (now (replica .entry))) r (now (replica .exit)) ⌝ }
+    ensures { λ r. ⌜ Keeps (freshCall (now (replica .entry))) r (now (replica .exit)) (now (replica .exit)) ⌝ }
 {
     if replica.len() != SIZE {
         return refused(BAD_REPLICA);
@@ -51,7 +51,7 @@ pub extern "C" fn refile_fresh(replica: &mut [u8]) -> u64
 
 #[no_mangle]
 pub extern "C" fn refile_load(replica: &mut [u8], image: &[u8]) -> u64
-    ensures { λ r. ⌜ Calls (loadCall (now (replica .entry)) (now (image .entry))) r (now (replica .exit)) ⌝ }
+    ensures { λ r. ⌜ Keeps (loadCall (now (replica .entry)) (now (image .entry))) r (now (replica .exit)) (now (replica .exit)) ⌝ }
 {
     if replica.len() != SIZE {
         return refused(BAD_REPLICA);
@@ -96,7 +96,7 @@ pub extern "C" fn refile_write(
     label: u64,
 ) -> u64
     requires { ⌜ Lent (now replica) ⌝ }
-    ensures { λ r. ⌜ Calls (writeCall (now (replica .entry)) (now (id .entry)) number (now (path .entry)) kind label) r (now (replica .exit)) ⌝ }
+    ensures { λ r. ⌜ Keeps (writeCall (now (replica .entry)) (now (id .entry)) number (now (path .entry)) kind label) r (now (replica .exit)) (now (replica .exit)) ⌝ }
 {
     if replica.len() != SIZE {
         return refused(BAD_REPLICA);
@@ -173,7 +173,7 @@ pub extern "C" fn refile_edit(
     parent: &[u8],
 ) -> u64
     requires { ⌜ Lent (now replica) ⌝ }
-    ensures { λ r. ⌜ Calls (editCall (now (replica .entry)) (now (id .entry)) (now (hash .entry)) kind label named number (now (parent .entry))) r (now (replica .exit)) ⌝ }
+    ensures { λ r. ⌜ Keeps (editCall (now (replica .entry)) (now (id .entry)) (now (hash .entry)) kind label named number (now (parent .entry))) r (now (replica .exit)) (now (replica .exit)) ⌝ }
 {
     if replica.len() != SIZE {
         return refused(BAD_REPLICA);
@@ -196,7 +196,7 @@ pub extern "C" fn refile_pull(
     answer: &mut [u8],
 ) -> u64
     requires { ⌜ Lent (now target) × Lent (now source) ⌝ }
-    ensures { λ r. ⌜ Calls (pullCall (now (target .entry)) (now (source .entry)) after (now (answer .entry))) r (now (target .exit), now (answer .exit)) ⌝ }
+    ensures { λ r. ⌜ Keeps (pullCall (now (target .entry)) (now (source .entry)) after (now (answer .entry))) r (now (target .exit), now (answer .exit)) (now (target .exit)) ⌝ }
 {
     if target.len() != SIZE {
         return refused(BAD_REPLICA);

@@ -2,7 +2,7 @@
 use mathlib.Core.Path.{refl}
 use native.Mathlib.Omega.{arith}
 use Rattle.refile.specs.Boundary.{editCall}
-use Rattle.refile.proofs.CallLaws.{bad-size, made}
+use Rattle.refile.proofs.CallLaws.{bad-size, refuses}
 use Rattle.refile.proofs.ChangeLaws.{edit-refused, edit-hash-size, parent-hash-size, edit-done}
 use borrow.Author.Needs.{needs}
 use Rattle.refile.proofs.change.refile_edit.Statement.{statement}
@@ -13,7 +13,7 @@ refused-requires c κs = search needs
 
 returns : tie.Need-returns
 unfolding editCall
-returns c = made (bad-size _ _ _ _ (c .before .if1 .taken)) (c .refused .ensures) refl
+returns c = refuses 100 (bad-size _ _ _ _ (c .before .if1 .taken)) (λ e. omega arith) (c .refused .ensures) refl
 
 bad-edit-requires : tie.Need-bad-edit-requires
 bad-edit-requires c κs = search needs

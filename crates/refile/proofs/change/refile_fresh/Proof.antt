@@ -2,7 +2,9 @@
 use mathlib.Core.Path.{refl}
 use mathlib.Core.List.{[]}
 use Rattle.refile.specs.Boundary.{freshCall}
-use Rattle.refile.proofs.CallLaws.{bad-size, sized, made}
+use Rattle.refile.proofs.CallLaws.{bad-size, sized, made, refuses, accepts}
+use Rattle.refile.proofs.ChangeLaws.{fresh-stands}
+use native.Mathlib.Omega.{arith}
 use borrow.Author.Needs.{needs}
 use Rattle.refile.proofs.change.refile_fresh.Statement.{statement}
 use Rattle.refile.proofs.change.refile_fresh.Tie as tie
@@ -12,7 +14,7 @@ refused-requires c κs = search needs
 
 returns : tie.Need-returns
 unfolding freshCall
-returns c = made (bad-size _ _ _ [] (c .before .if1 .taken)) (c .refused .ensures) refl
+returns c = refuses 100 (bad-size _ _ _ [] (c .before .if1 .taken)) (λ e. omega arith) (c .refused .ensures) refl
 
 make-fresh-requires : tie.Need-make-fresh-requires
 make-fresh-requires c κs = search needs
@@ -22,7 +24,7 @@ same-length c = search needs
 
 returns-2 : tie.Need-returns-2
 unfolding freshCall
-returns-2 c = made (sized _ _ _ (c .before .before .before .before .if1 .left)) refl (c .before .before .make-fresh .ensures .bytes)
+returns-2 c = accepts (made (sized _ _ _ (c .before .before .before .before .if1 .left)) refl (c .before .before .make-fresh .ensures .bytes)) (fresh-stands _ (c .before .before .make-fresh .ensures))
 
 pub refile-fresh-spec : {M : Type 1} → statement M
 refile-fresh-spec =

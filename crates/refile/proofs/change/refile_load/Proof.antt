@@ -2,8 +2,9 @@
 use mathlib.Core.Path.{refl}
 use mathlib.Core.List.{[]}
 use Rattle.refile.specs.Boundary.{loadCall}
-use Rattle.refile.proofs.CallLaws.{bad-size, made}
+use Rattle.refile.proofs.CallLaws.{bad-size, refuses}
 use Rattle.refile.proofs.ChangeLaws.{loaded-small, loads-on}
+use native.Mathlib.Omega.{arith}
 use borrow.Author.Needs.{needs}
 use Rattle.refile.proofs.change.refile_load.Statement.{statement}
 use Rattle.refile.proofs.change.refile_load.Tie as tie
@@ -13,7 +14,7 @@ refused-requires c κs = search needs
 
 returns : tie.Need-returns
 unfolding loadCall
-returns c = made (bad-size _ _ _ [] (c .before .if1 .taken)) (c .refused .ensures) refl
+returns c = refuses 100 (bad-size _ _ _ [] (c .before .if1 .taken)) (λ e. omega arith) (c .refused .ensures) refl
 
 load-requires : tie.Need-load-requires
 load-requires c κs = search needs

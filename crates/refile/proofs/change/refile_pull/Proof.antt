@@ -1,8 +1,9 @@
 -- `refile_pull` meets its contract. Assumes nothing.
 use mathlib.Core.Path.{refl, _∙_}
 use Rattle.refile.specs.Boundary.{countBytes, pullCall}
-use Rattle.refile.proofs.CallLaws.{bad-size, good-size, made}
+use Rattle.refile.proofs.CallLaws.{bad-size, good-size, refuses}
 use Rattle.refile.proofs.ChangeLaws.{pull-short, pull-done}
+use native.Mathlib.Omega.{arith}
 use borrow.Author.Needs.{needs}
 use Rattle.refile.proofs.change.refile_pull.Statement.{statement}
 use Rattle.refile.proofs.change.refile_pull.Tie as tie
@@ -12,14 +13,14 @@ refused-requires c κs = search needs
 
 returns : tie.Need-returns
 unfolding pullCall
-returns c = made (bad-size _ _ _ _ (c .before .if1 .taken)) (c .refused .ensures) refl
+returns c = refuses 100 (bad-size _ _ _ _ (c .before .if1 .taken)) (λ e. omega arith) (c .refused .ensures) refl
 
 refused-requires-2 : tie.Need-refused-requires-2
 refused-requires-2 c κs = search needs
 
 returns-2 : tie.Need-returns-2
 unfolding pullCall
-returns-2 c = made (good-size _ _ _ _ (c .before .before .if1 .left) ∙ bad-size _ _ _ _ (c .before .if2 .taken)) (c .refused2 .ensures) refl
+returns-2 c = refuses 100 (good-size _ _ _ _ (c .before .before .if1 .left) ∙ bad-size _ _ _ _ (c .before .if2 .taken)) (λ e. omega arith) (c .refused2 .ensures) refl
 
 refused-requires-3 : tie.Need-refused-requires-3
 refused-requires-3 c κs = search needs

@@ -2,8 +2,9 @@
 use mathlib.Core.Path.{refl, ap, _∙_}
 use Rattle.rules.specs.Answer.{writtenNumber}
 use Rattle.refile.specs.Boundary.{result, writeCall}
-use Rattle.refile.proofs.CallLaws.{bad-size, good-size, house-stops, house-passes, made}
+use Rattle.refile.proofs.CallLaws.{bad-size, good-size, house-stops, house-passes, made, refuses, accepts}
 use Rattle.refile.proofs.ChangeLaws.{wrote-content}
+use native.Mathlib.Omega.{arith}
 use borrow.Author.Needs.{needs}
 use Rattle.refile.proofs.change.refile_write.Statement.{statement}
 use Rattle.refile.proofs.change.refile_write.Tie as tie
@@ -13,7 +14,7 @@ refused-requires c κs = search needs
 
 returns : tie.Need-returns
 unfolding writeCall
-returns c = made (bad-size _ _ _ _ (c .before .if1 .taken)) (c .refused .ensures) refl
+returns c = refuses 100 (bad-size _ _ _ _ (c .before .if1 .taken)) (λ e. omega arith) (c .refused .ensures) refl
 
 bad-content-requires : tie.Need-bad-content-requires
 bad-content-requires c κs = search needs
@@ -23,7 +24,7 @@ refused-requires-2 c κs = search needs
 
 returns-2 : tie.Need-returns-2
 unfolding writeCall
-returns-2 c = made (good-size _ _ _ _ (c .before .before .before .if1 .left) ∙ house-stops _ _ _ _ (c .before .before .bad-content .ensures) (c .before .if2 .taken)) (c .refused2 .ensures) refl
+returns-2 c = refuses _ (good-size _ _ _ _ (c .before .before .before .if1 .left) ∙ house-stops _ _ _ _ (c .before .before .bad-content .ensures) (c .before .if2 .taken)) (c .before .if2 .taken) (c .refused2 .ensures) refl
 
 content-from-requires : tie.Need-content-from-requires
 content-from-requires c κs = search needs
@@ -41,8 +42,8 @@ returns-3 : tie.Need-returns-3
 unfolding writeCall
 returns-3 c =
     let w = wrote-content _ _ _ _ _ _ _ _ (c .before .before .before .before .before .content-from .ensures) (c .before .before .before .write .ensures) in
-    made (good-size _ _ _ _ (c .before .before .before .before .before .before .before .before .if1 .left) ∙ house-passes _ _ _ _ (c .before .before .before .before .before .before .before .bad-content .ensures) (c .before .before .before .before .before .before .if2 .left))
-    (c .written .ensures ∙ ap (λ a. result (writtenNumber a)) (w .answer)) (w .left)
+    accepts (made (good-size _ _ _ _ (c .before .before .before .before .before .before .before .before .if1 .left) ∙ house-passes _ _ _ _ (c .before .before .before .before .before .before .before .bad-content .ensures) (c .before .before .before .before .before .before .if2 .left))
+    (c .written .ensures ∙ ap (λ a. result (writtenNumber a)) (w .answer)) (w .left)) (w .is)
 
 pub refile-write-spec : {M : Type 1} → statement M
 refile-write-spec =
