@@ -6,6 +6,7 @@ pub mod ReachLaws
 pub mod EditLaws
 pub mod FormLaws
 pub mod PassLaws
+pub mod SettledLaws
 pub mod StateLaws
 pub mod JudgeLaws
 pub mod LearnLaws

@@ -1,23 +1,26 @@
 -- What a pass over a path finds in a document's tree.
 use mathlib.Core.Path.{_≡_}
-use mathlib.Core.Bool.{Bool, true, false, _||_}
+use mathlib.Core.Bool.{Bool, true, false, not, _&&_, _||_}
 use mathlib.Core.List.{List, [], _∷_}
 use mathlib.Core.Option.{Option, none, some}
-use Prim.Native.Nat.{ℕ, zero, suc, _+_, _≤_, _<_}
+use Prim.Native.Nat.{ℕ, zero, suc, _+_, _-_, _*_, _≤_, _<_}
+use lib.Dec.{eqb}
 use lib.ListN.{length, drop}
 use Rattle.rules.specs.declared.Revision.{Revision}
-use Rattle.rules.specs.Choice.{pick}
+use Rattle.rules.specs.Choice.{pick, maybe}
+use Rattle.rules.specs.Image.{rowSize}
 use Rattle.rules.specs.declared.Order.the-variants.{Less}
 use Rattle.rules.specs.Map.{find, Below}
-use Rattle.rules.specs.Order.{orderRev}
+use Rattle.rules.specs.Order.{orderRev, sameRev}
 use Rattle.rules.specs.Read.{parentIn}
 use Rattle.rules.specs.Replica.{Node, Tree}
 use Rattle.rules.specs.Write.{lacksParent, isNew, isAddition, otherParent, otherContent}
 use Rattle.rules.specs.Room.{hashesMost}
+use Rattle.tree.specs.Rows.{nodeAt}
 use Rattle.tree.specs.Table.{treeAt, Searchable}
 use Rattle.writes.specs.declared.plan.Plan.{Plan}
 use Rattle.writes.specs.declared.plan.Pass.{Pass}
-use Rattle.writes.specs.Path.{countOf}
+use Rattle.writes.specs.Path.{countOf, revAt, parentAt}
 
 -- a parent that the path gives and the tree lacks
 unfoldable pub isNewParent : Tree → Revision × Node → Bool
@@ -46,6 +49,23 @@ planFrom t k p (g ∷ gs) = planFrom t (k + 1) (planned t k p g) gs
 
 unfoldable pub planOf : Tree → List (Revision × Node) → Plan
 planOf t gs = planFrom t 0 noPlan gs
+
+-- ---- a row that the path adds nothing to
+
+-- the parent given, if one is, is the one held
+abbrev pub parentHeld : Option Revision → Option Revision → Bool
+parentHeld none held = true
+parentHeld (some p) held = maybe false (λ q. sameRev q p) held
+
+-- what is held is the revision, with the parent given for it
+unfoldable pub holds : Revision × Node → Revision → Option Revision → Bool
+holds x v o = sameRev (x .0) v && parentHeld o (x .1 .parent)
+
+-- the last row below the top holds the k-th revision, which is not the newest
+unfoldable pub settled : ℕ → ℕ → List ℕ → ℕ → List ℕ → ℕ → Bool
+settled base top s number path k =
+    not (eqb k 0)
+    && (not (eqb top 0) && holds (nodeAt (base + (top - 1) * rowSize) s) (revAt number path k) (parentAt number path k))
 
 -- ---- the pass
 

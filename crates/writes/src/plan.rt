@@ -1,6 +1,7 @@
 // The plan of a write: a read-only pass over its path.
 use crate::path::given;
-use octets::order::same_bytes;
+use octets::number::get4;
+use octets::number::get8;
 use rules::Content;
 use rules::RevNumber;
 use tree::row::Kind;
@@ -11,17 +12,19 @@ use tree::table::row_at;
 ghost use mathlib.Core.Path.{_≡_};
 ghost use mathlib.Core.Option.{Option, none, some};
 ghost use mathlib.Core.Bool.{_||_};
-ghost use Prim.Native.Nat.{ℕ, _+_, _<_, _≤_};
+ghost use Prim.Native.Nat.{ℕ, _+_, _*_, _<_, _≤_};
+ghost use lib.ListN.{length};
+ghost use Rattle.rules.specs.Bytes.{part};
 ghost use Rattle.rules.specs.Choice.{pick};
 ghost use Rattle.rules.specs.Map.{find as has};
 ghost use Rattle.rules.specs.Room.{hashesMost};
-ghost use Rattle.rules.specs.Order.{orderRev, sameRev};
+ghost use Rattle.rules.specs.Order.{isEqual, orderBytes, orderRev, sameRev};
 ghost use Rattle.rules.specs.Replica.{Tree};
 ghost use Rattle.rules.specs.Write.{lacksParent, agree, differ};
-ghost use Rattle.tree.specs.Rows.{contentOf, meaning};
+ghost use Rattle.tree.specs.Rows.{contentOf, meaning, nodeAt};
 ghost use Rattle.tree.specs.Table.{treeAt};
-ghost use Rattle.writes.specs.Path.{givesOf};
-ghost use Rattle.writes.specs.Plan.{noPlan, planned, planOf, Counted, CanStep, Stepped, CanPlan};
+ghost use Rattle.writes.specs.Path.{revAt, parentAt, givesOf, InPath};
+ghost use Rattle.writes.specs.Plan.{holds, settled, noPlan, planned, planOf, Counted, CanStep, Stepped, CanPlan};
 
 // What a path would do to a document: whether a revision of it has another parent (4) or another
 // content (5), how many revisions and parents it would add, and how many of the newest it can alter.
@@ -68,6 +71,21 @@ fn other_content(held: Kind, given: Kind) -> bool
     }
 }
 
+// Whether sixteen bytes of each are the same. They are compared as two numbers of eight.
+fn same_hashes(a: &[u8], p: usize, b: &[u8], q: usize) -> bool
+    requires { ⌜ (p + 16 ≤ length (now a)) × (q + 16 ≤ length (now b)) ⌝ }
+    ensures { λ r. ⌜ r ≡ isEqual (orderBytes (part p 16 (now (a .entry))) (part q 16 (now (b .entry)))) ⌝ }
+{
+    let x = get8(a, p);
+    let y = get8(b, q);
+    if x != y {
+        return false;
+    }
+    let u = get8(a, p + 8);
+    let v = get8(b, q + 8);
+    u == v
+}
+
 // 4, of a revision that is held: it has a parent other than the one given.
 fn other_parent(held: Row, given: Row) -> bool
     requires { ⌜ held .rev ≡ given .rev ⌝ }
@@ -81,7 +99,7 @@ fn other_parent(held: Row, given: Row) -> bool
     }
     let a = held.parent;
     let b = given.parent;
-    !same_bytes(&a, &b)
+    !same_hashes(&a, 0, &b, 0)
 }
 
 // A parent is given, and none is known.
@@ -168,6 +186,45 @@ fn step(b: &[u8], base: usize, top: usize, given: Row, k: usize, p: Plan) -> Pas
     }
 }
 
+// Whether the row at p is the k-th revision of the path, with the parent that the path gives it. The
+// bytes are compared where they stand: most revisions of a path that comes again are like this.
+fn is_held(b: &[u8], p: usize, number: RevNumber, path: &[u8], k: usize) -> bool
+    requires { ⌜ (p + 48 ≤ length (now b)) × InPath (now path) (number .0) k ⌝ }
+    ensures { λ r. ⌜ r ≡ holds (nodeAt p (now (b .entry))) (revAt (number .0) (now (path .entry)) k) (parentAt (number .0) (now (path .entry)) k) ⌝ }
+{
+    let n = get4(b, p);
+    if n != number.0 - (k as u32) {
+        return false;
+    }
+    let at = k * 16;
+    if !same_hashes(b, p + 4, path, at) {
+        return false;
+    }
+    let next = k + 1;
+    if next == path.len() / 16 {
+        return true;
+    }
+    if b[p + 21] == 0 {
+        return false;
+    }
+    same_hashes(b, p + 24, path, at + 16)
+}
+
+// Whether the last row below the top is the k-th revision and the path adds nothing to it. The newest
+// also has a content, so it is left to a step.
+fn is_settled(b: &[u8], base: usize, top: usize, number: RevNumber, path: &[u8], k: usize) -> bool
+    requires { ⌜ (base + top * 48 ≤ length (now b)) × InPath (now path) (number .0) k ⌝ }
+    ensures { λ r. ⌜ r ≡ settled base top (now (b .entry)) (number .0) (now (path .entry)) k ⌝ }
+{
+    if k == 0 {
+        return false;
+    }
+    if top == 0 {
+        return false;
+    }
+    is_held(b, base + (top - 1) * 48, number, path, k)
+}
+
 // What a path would do to the document whose n rows begin at base.
 pub(crate) fn plan_path(
     b: &[u8],
@@ -191,10 +248,15 @@ pub(crate) fn plan_path(
     let mut top = n;
     let mut k = 0;
     while k < count {
-        let s = step(b, base, top, given(path, number, content, k), k, p);
-        p = s.plan;
-        top = s.top;
+        let at = k;
         k += 1;
+        if is_settled(b, base, top, number, path, at) {
+            top -= 1;
+        } else {
+            let s = step(b, base, top, given(path, number, content, at), at, p);
+            p = s.plan;
+            top = s.top;
+        }
     }
     p
 }

@@ -6,11 +6,9 @@ use Rattle.writes.proofs.plan.lacks_parent.Tie as tie
 use Rattle.writes.proofs.plan.lacks_parent.Reads as reads
 use Rattle.writes.proofs.plan.lacks_parent.Lts as lts
 
--- src/plan.rt:92:9
 returns : tie.Need-returns
 returns c = sym (lacks-held ((c .before) .args .held) ((c .before) .args .given) ((c .if1) .taken))
 
--- src/plan.rt:88:1
 returns-2 : tie.Need-returns-2
 returns-2 c = sym (lacks-unknown ((c .before) .args .held) ((c .before) .args .given) ((c .if1) .left))
 

@@ -7,35 +7,27 @@ use Rattle.writes.proofs.plan.other_content.Reads as reads
 use Rattle.writes.proofs.plan.other_content.Lts as lts
 use Rattle.writes.proofs.plan.same_content.Reads as same-content-reads
 
--- src/plan.rt:63:24
 enum-told : tie.Need-enum-told
 enum-told c = search needs
 
--- src/plan.rt:64:20
 enum-known-held : tie.Need-enum-known-held
 enum-known-held c = search needs
 
--- src/plan.rt:65:28
 enum-told-2 : tie.Need-enum-told-2
 enum-told-2 c = search needs
 
--- src/plan.rt:66:24
 enum-known-given : tie.Need-enum-known-given
 enum-known-given c = search needs
 
--- src/plan.rt:66:31
 same-content-requires : tie.Need-same-content-requires
 same-content-requires c κs = search needs
 
--- src/plan.rt:59:1
 returns : tie.Need-returns
 returns c = search needs
 
--- src/plan.rt:59:1
 returns-2 : tie.Need-returns-2
 returns-2 c = search needs
 
--- src/plan.rt:59:1
 returns-3 : tie.Need-returns-3
 returns-3 c = rw ((c .before .before .before .before .before .held) .given .1, (c .before .before .given) .given .1) (ap not ((c .same-content) .ensures))
 

@@ -1,37 +1,40 @@
+-- `plan::other_parent` meets its contract. Assumes nothing.
 use borrow.Author.Needs.{needs}
 use borrow.Author.Tests.{not-true, not-false}
-use Rattle.writes.proofs.PassLaws.{differ-unknown, differ-none, differ-hashes}
 use mathlib.Core.Bool.{not}
-use mathlib.Core.Path.{sym, ap, _∙_}
+use native.Mathlib.Omega.{arith}
+use mathlib.Core.Path.{_≡_, sym, ap, _∙_}
+use lib.ListN.{length}
+use Rattle.rules.proofs.ByteLaws.{part-whole}
+use Rattle.writes.proofs.PassLaws.{differ-unknown, differ-none, differ-hashes}
 use Rattle.writes.proofs.plan.other_parent.Statement.{statement}
 use Rattle.writes.proofs.plan.other_parent.Tie as tie
-use Rattle.writes.proofs.plan.other_parent.Reads as reads
-use Rattle.writes.proofs.plan.other_parent.Lts as lts
-use Rattle.octets.proofs.order.same_bytes.Reads as same-bytes-reads
 
--- src/plan.rt:77:9
 returns : tie.Need-returns
 returns c = sym (differ-unknown ((c .before .before) .args .held) ((c .before .before) .args .given) (not-true _ ((c .if1) .taken)))
 
--- src/plan.rt:80:9
 returns-2 : tie.Need-returns-2
 returns-2 c = sym (differ-none ((c .before .before .before .before) .args .held) ((c .before .before .before .before) .args .given) (not-false _ ((c .before .before .if1) .left)) (not-true _ ((c .if2) .taken)))
 
--- src/plan.rt:84:17
-slice-aggregate-same-bytes : tie.Need-slice-aggregate-same-bytes
-slice-aggregate-same-bytes c = search needs
+slice-aggregate-same-hashes : tie.Need-slice-aggregate-same-hashes
+slice-aggregate-same-hashes c = search needs
 
--- src/plan.rt:84:21
-slice-aggregate-same-bytes-2 : tie.Need-slice-aggregate-same-bytes-2
-slice-aggregate-same-bytes-2 c = search needs
+slice-aggregate-same-hashes-2 : tie.Need-slice-aggregate-same-hashes-2
+slice-aggregate-same-hashes-2 c = search needs
 
--- src/plan.rt:84:6
-same-bytes-requires : tie.Need-same-bytes-requires
-same-bytes-requires c κs = search needs
+same-hashes-requires : tie.Need-same-hashes-requires
+same-hashes-requires c κs =
+    let a = (c .before .before .before .before .before .before .before .before) .args in
+    let n : length (a .held .parent) ≡ 16 = search needs in
+    let m : length (a .given .parent) ≡ 16 = search needs in
+    (omega arith, omega arith)
 
--- src/plan.rt:72:1
 returns-3 : tie.Need-returns-3
-returns-3 c = ap not ((c .same-bytes) .ensures) ∙ sym (differ-hashes ((c .before .before .before .before .before .before .before .before .before) .args .held) ((c .before .before .before .before .before .before .before .before .before) .args .given) ((c .before .before .before .before .before .before .before .before .before) .pre) (not-false _ ((c .before .before .before .before .before .before .before .if1) .left)) (not-false _ ((c .before .before .before .before .before .if2) .left)))
+returns-3 c =
+    let a = (c .before .before .before .before .before .before .before .before .before) .args in
+    let n : length (a .held .parent) ≡ 16 = search needs in
+    let m : length (a .given .parent) ≡ 16 = search needs in
+    ap not (rw (part-whole (a .held .parent) 16 n, part-whole (a .given .parent) 16 m) at ((c .same-hashes) .ensures)) ∙ sym (differ-hashes (a .held) (a .given) ((c .before .before .before .before .before .before .before .before .before) .pre) (not-false _ ((c .before .before .before .before .before .before .before .if1) .left)) (not-false _ ((c .before .before .before .before .before .if2) .left)))
 
 pub other-parent-spec : {M : Type 1} → statement M
 other-parent-spec =
@@ -39,7 +42,7 @@ other-parent-spec =
     (tie.spec
     returns
     returns-2
-    slice-aggregate-same-bytes
-    slice-aggregate-same-bytes-2
-    same-bytes-requires
+    slice-aggregate-same-hashes
+    slice-aggregate-same-hashes-2
+    same-hashes-requires
     returns-3)

@@ -4,15 +4,12 @@ use Rattle.writes.proofs.plan.reach.Tie as tie
 use Rattle.writes.proofs.plan.reach.Reads as reads
 use Rattle.writes.proofs.plan.reach.Lts as lts
 
--- src/plan.rt:114:16
 add-result : tie.Need-add-result
 add-result c = search needs
 
--- src/plan.rt:110:1
 returns : tie.Need-returns
 returns c = rw (c .if1 .taken)
 
--- src/plan.rt:110:1
 returns-2 : tie.Need-returns-2
 returns-2 c = rw (c .if1 .left)
 

@@ -4,43 +4,33 @@ use Rattle.writes.proofs.plan.same_content.Tie as tie
 use Rattle.writes.proofs.plan.same_content.Reads as reads
 use Rattle.writes.proofs.plan.same_content.Lts as lts
 
--- src/plan.rt:47:23
 enum-known-a : tie.Need-enum-known-a
 enum-known-a c = search needs
 
--- src/plan.rt:48:27
 enum-known-b : tie.Need-enum-known-b
 enum-known-b c = search needs
 
--- src/plan.rt:49:33
 enum-told : tie.Need-enum-told
 enum-told c = search needs
 
--- src/plan.rt:51:29
 enum-told-2 : tie.Need-enum-told-2
 enum-told-2 c = search needs
 
--- src/plan.rt:52:33
 enum-told-3 : tie.Need-enum-told-3
 enum-told-3 c = search needs
 
--- src/plan.rt:53:33
 enum-told-4 : tie.Need-enum-told-4
 enum-told-4 c = search needs
 
--- src/plan.rt:43:1
 returns : tie.Need-returns
 returns c = rw ((c .before .before .before .before .a) .given .1, (c .before .b) .given .1)
 
--- src/plan.rt:43:1
 returns-2 : tie.Need-returns-2
 returns-2 c = search needs
 
--- src/plan.rt:43:1
 returns-3 : tie.Need-returns-3
 returns-3 c = search needs
 
--- src/plan.rt:43:1
 returns-4 : tie.Need-returns-4
 returns-4 c = search needs
 

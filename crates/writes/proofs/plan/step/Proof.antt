@@ -17,15 +17,12 @@ use Rattle.tree.proofs.table.row_at.Reads as row-at-reads
 use Rattle.writes.proofs.plan.with_held.Reads as with-held-reads
 use Rattle.writes.proofs.plan.with_new.Reads as with-new-reads
 
--- src/plan.rt:155:11
 find-requires : tie.Need-find-requires
 find-requires c κs = search needs
 
--- src/plan.rt:156:19
 enum-known-i : tie.Need-enum-known-i
 enum-known-i c = search needs
 
--- src/plan.rt:157:17
 row-at-requires : tie.Need-row-at-requires
 row-at-requires c κs =
     let h = place-at ((c .before .i) .given .0 .0) ((c .before .before .before .before .before .before) .args .given .rev) _ (sym ((c .before .before .before .find) .ensures) ∙ (c .before .i) .given .1) .within in
@@ -33,19 +30,15 @@ row-at-requires c κs =
     let w = (c .before .before .before .before .before .before) .pre .search .within in
     omega arith
 
--- src/plan.rt:158:17
 with-held-requires : tie.Need-with-held-requires
 with-held-requires c κs = ((c .before .before .before .before .before .before .before) .pre .counted, row-found ((c .before .before .before .before .before .before .before) .args .base) ((c .before .before .before .before .before .before .before) .args .top) ((c .before .before .i) .given .0 .0) ((c .before .before .before .before .before .before .before) .args .b .now) ((c .before .before .before .before .before .before .before) .args .given .rev) ((c .row-at) .result) (sym ((c .before .before .before .before .find) .ensures) ∙ (c .before .before .i) .given .1) ((c .row-at) .ensures) .0)
 
--- src/plan.rt:161:20
 enum-known-i-2 : tie.Need-enum-known-i-2
 enum-known-i-2 c = search needs
 
--- src/plan.rt:162:17
 with-new-requires : tie.Need-with-new-requires
 with-new-requires c κs = search needs
 
--- src/plan.rt:150:1
 returns : tie.Need-returns
 unfolding meaning
 returns c =
@@ -56,7 +49,6 @@ returns c =
       lower = lower-at ((c .before .before .before .i) .given .0 .0) ((c .before .before .before .before .before .before .before .before) .args .given .rev) (treeAt ((c .before .before .before .before .before .before .before .before) .args .base) ((c .before .before .before .before .before .before .before .before) .args .top) ((c .before .before .before .before .before .before .before .before) .args .b .now)) noRow (subst (λ (x : ℕ). (c .before .before .before .i) .given .0 .0 < x) (sym (length-tree ((c .before .before .before .before .before .before .before .before) .args .base) ((c .before .before .before .before .before .before .before .before) .args .top) ((c .before .before .before .before .before .before .before .before) .args .b .now))) (f .2)) (f .3);
     }
 
--- src/plan.rt:150:1
 returns-2 : tie.Need-returns-2
 unfolding meaning
 returns-2 c =

@@ -13,39 +13,30 @@ use Rattle.writes.proofs.plan.other_content.Reads as other-content-read
 use Rattle.writes.proofs.plan.other_parent.Reads as other-parent-reads
 use Rattle.writes.proofs.plan.reach.Reads as reach-reads
 
--- src/plan.rt:138:9
 lacks-parent-requires : tie.Need-lacks-parent-requires
 lacks-parent-requires c κs = search needs
 
--- src/plan.rt:140:36
 other-parent-requires : tie.Need-other-parent-requires
 other-parent-requires c κs = search needs
 
--- src/plan.rt:140:18
 either-requires : tie.Need-either-requires
 either-requires c κs = search needs
 
--- src/plan.rt:141:32
 other-content-requires : tie.Need-other-content-requires
 other-content-requires c κs = search needs
 
--- src/plan.rt:141:16
 either-requires-2 : tie.Need-either-requires-2
 either-requires-2 c κs = search needs
 
--- src/plan.rt:143:30
 one-if-requires : tie.Need-one-if-requires
 one-if-requires c κs = search needs
 
--- src/plan.rt:143:18
 add-t13 : tie.Need-add-t13
 add-t13 c = search needs
 
--- src/plan.rt:144:16
 reach-requires : tie.Need-reach-requires
 reach-requires c κs = search needs
 
--- src/plan.rt:132:1
 returns : tie.Need-returns
 returns c =
     λ t e. with-held t ((c .before .before .before .before .before .before .before .before) .args .k) ((c .before .before .before .before .before .before .before .before) .args .p) ((c .before .before .before .before .before .before .before .before) .args .held) ((c .before .before .before .before .before .before .before .before) .args .given) ((c .before .before .before .before .before .either) .result) ((c .before .before .before .either2) .result) ((c .before .before .before .before .before .before .before .lacks-parent) .result) ((c .before .before .one-if) .result) ((c .reach) .result) e ((c .before .before .before .before .before .before .before .lacks-parent) .ensures) ((c .before .before .before .before .before .either) .ensures ∙ ap (λ (v : Bool). (c .before .before .before .before .before .before .before .before) .args .p .crossed || v) ((c .before .before .before .before .before .before .other-parent) .ensures)) ((c .before .before .before .either2) .ensures ∙ ap (λ (v : Bool). (c .before .before .before .before .before .before .before .before) .args .p .other || v) ((c .before .before .before .before .other-content) .ensures)) ((c .before .before .one-if) .ensures .0) ((c .reach) .ensures)

@@ -6,23 +6,18 @@ use Rattle.writes.proofs.plan.with_new.Reads as reads
 use Rattle.writes.proofs.plan.with_new.Lts as lts
 use Rattle.writes.proofs.plan.one_if.Reads as one-if-reads
 
--- src/plan.rt:125:20
 add-t4 : tie.Need-add-t4
 add-t4 c = search needs
 
--- src/plan.rt:126:30
 one-if-requires : tie.Need-one-if-requires
 one-if-requires c κs = search needs
 
--- src/plan.rt:126:18
 add-t6 : tie.Need-add-t6
 add-t6 c = search needs
 
--- src/plan.rt:127:16
 add-t7 : tie.Need-add-t7
 add-t7 c = search needs
 
--- src/plan.rt:118:1
 returns : tie.Need-returns
 returns c = λ t e. with-new t ((c .before .before .before) .args .k) ((c .before .before .before) .args .p) ((c .before .before .before) .args .given) ((c .before .one-if) .result) e ((c .before .one-if) .ensures .0)
 
