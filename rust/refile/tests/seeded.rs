@@ -17,24 +17,17 @@ const CRATES: [&str; 14] = [
 ];
 
 /// Must-fail edits that the scenario brings out: some of each crate.
-const EDITS: [(&str, &str); 21] = [
-    ("octets", "get4-weight"),
+const EDITS: [(&str, &str); 14] = [
     ("octets", "order-prefix-last"),
     ("tree", "deleted-wins"),
     ("tree", "zero-parent-unknown"),
-    ("store", "given-parent-wins"),
-    ("reads", "buffer-before-revision"),
     ("reads", "changes-in-id-order"),
     ("writes", "ancestry-dropped"),
     ("writes", "body-put-back"),
     ("writes", "crossed-above"),
-    ("writes", "parent-only-unchanged"),
     ("writes", "raised-unchanged"),
-    ("pulls", "bare-leaf"),
-    ("pulls", "first-leaf-only"),
     ("pulls", "known-leaf-skipped"),
     ("pulls", "stops-at-refusal"),
-    ("edits", "deletion-without-parent"),
     ("faults", "ids-without-length"),
     ("faults", "place-in-document"),
     ("codec", "places-left-zero"),
