@@ -42,16 +42,16 @@ use Rattle.store.specs.Storage.{storeSize, stored, replicaOf, IsStored}
 use Rattle.codec.specs.Codec.{loadBytes}
 use Rattle.reads.proofs.AnswerLaws.{first-past, first-some}
 use Rattle.refile.specs.Boundary.{result, resultOf, call, Calls, Lent, badReplica, badKind, badLabel, badFlag, badHash, badNoParent, parentHouse, editHouse, contentFrom, parentFrom, shortAnswer, changesAs, changeBytes, countBytes, heldBytes, freshCall, loadCall, saveCall, writeCall, editCall, winnerCall, leavesCall, pathCall, missingCall, changesCall, pullCall, sequenceCall, countsCall, reportCall}
-use Rattle.refile.specs.Decode.{decode, RangeOf, InRange, said}
+use Rattle.refile.specs.Decode.{refusalIn, valueIn, decode, RangeOf, InRange, said}
 
 -- what a result says is what was said
 decode-of : (f v : ℕ) → RangeOf f v → decode (resultOf f v) ≡ record { refusal = f; value = v }
 decode-of zero v h = rw (lt-leb 9223372036854775808 v h)
 decode-of (suc n) v h =
-    let p : (9223372036854775808 + suc n * 4294967296 + v) / 4294967296 % 2147483648 ≡ suc n = omega arith in
-    let q : (9223372036854775808 + suc n * 4294967296 + v) % 4294967296 ≡ v = omega arith in
-    rw (le-leb 9223372036854775808 (9223372036854775808 + suc n * 4294967296 + v) (omega arith))
-    (λ i. record { refusal = p i; value = q i })
+    let t = le-leb 9223372036854775808 (9223372036854775808 + suc n * 4294967296 + v) (omega arith) in
+    let p : refusalIn (9223372036854775808 + suc n * 4294967296 + v) ≡ suc n = rw t (omega arith) in
+    let q : valueIn (9223372036854775808 + suc n * 4294967296 + v) ≡ v = rw t (omega arith) in
+    λ i. record { refusal = p i; value = q i }
 
 pub decode-number : (n : Numbered) → InRange n → decode (result n) ≡ n
 decode-number n h = decode-of (n .refusal) (n .value) h

@@ -6,13 +6,19 @@ use lib.Dec.{leb}
 use contract.Lifetimes.{Lfts}
 use denote.Triple.Clauses.{AtExit}
 use borrow.Fn.Kinds.{PK, RK, In, Out, Dens, GoodsP, resT, endedOf}
-use Rattle.rules.specs.Answer.{Numbered, accepted, refused}
+use Rattle.rules.specs.Answer.{Numbered, refused}
 use Rattle.rules.specs.Choice.{pick, maybe, firstThat}
 
--- as refile_refusal and refile_value of include/refile.h take a result apart
+-- refile_refusal of include/refile.h: 0 if the call was accepted, else the refusal's number
+abbrev pub refusalIn : ℕ → ℕ
+refusalIn r = pick (leb 9223372036854775808 r) (r / 4294967296 % 2147483648) 0
+
+-- refile_value: the answer of an accepted call, else the place
+abbrev pub valueIn : ℕ → ℕ
+valueIn r = pick (leb 9223372036854775808 r) (r % 4294967296) r
+
 abbrev pub decode : ℕ → Numbered
-decode r =
-    pick (leb 9223372036854775808 r) (record { refusal = r / 4294967296 % 2147483648; value = r % 4294967296 }) (accepted r)
+decode r = record { refusal = refusalIn r; value = valueIn r }
 
 -- an answer below 2^63; of a refusal a number of 1 to 105, and a place in the lower half
 abbrev pub RangeOf : ℕ → ℕ → Type 0
