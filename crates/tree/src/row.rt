@@ -18,6 +18,7 @@ ghost use lib.ListN.{length};
 ghost use Rattle.rules.specs.Bytes.{part};
 ghost use Rattle.rules.specs.Image.{rowOf, kindOf, labelOf, flagOf, parentHash};
 ghost use Rattle.rules.specs.Order.{orderRev};
+ghost use Rattle.rules.specs.Replica.{revision};
 ghost use Rattle.octets.specs.Splice.{splice};
 ghost use Rattle.tree.specs.Rows.{rowFrom, kindFrom, contentOf, parentOf, revAt, RowPut, IsParentHash};
 
@@ -152,19 +153,18 @@ pub fn compare(a: Revision, b: Revision) -> Order
     order_hashes(g, h)
 }
 
-// The same with the revision of the row at `at`, which is compared where it stands.
-pub(crate) fn compare_at(rev: Revision, s: &[u8], at: usize) -> Order
+// The same of a number and a hash with the revision of the row at `at`, which is compared where it
+// stands. They come apart, since a copy of both as one is slow right after they were put together.
+pub(crate) fn compare_at(number: RevNumber, hash: [u8; 16], s: &[u8], at: usize) -> Order
     requires { ⌜ at + 48 ≤ length (now s) ⌝ }
-    ensures { λ r. ⌜ r ≡ orderRev rev (revAt at (now (s .entry))) ⌝ }
+    ensures { λ r. ⌜ r ≡ orderRev (revision (number .0) hash) (revAt at (now (s .entry))) ⌝ }
 {
-    let x = rev.number;
     let y = get4(s, at);
-    if x.0 < y {
+    if number.0 < y {
         return Order::Less;
     }
-    if y < x.0 {
+    if y < number.0 {
         return Order::Greater;
     }
-    let h = rev.hash;
-    order_hash_at(h, s, at + 4)
+    order_hash_at(hash, s, at + 4)
 }

@@ -17,6 +17,7 @@ ghost use Prim.Native.Nat.{ℕ, _+_, _*_, _<_, _≤_};
 ghost use lib.ListN.{length};
 ghost use Rattle.rules.specs.Map.{find};
 ghost use Rattle.rules.specs.Order.{orderRev};
+ghost use Rattle.rules.specs.Replica.{revision};
 ghost use Rattle.rules.specs.Write.{isNone};
 ghost use Rattle.tree.specs.Rows.{rowAt, revAt};
 ghost use Rattle.tree.specs.Table.{treeAt, placeOf, Searchable, CanInsert, RowInserted, RowSet};
@@ -61,16 +62,16 @@ pub fn kind_at(s: &[u8], base: usize, i: usize) -> Kind
     kind_of(s[p + 20], label)
 }
 
-// The first of n rows that is not below rev: it, or the gap before it. By halves.
-fn search(s: &[u8], base: usize, n: usize, rev: Revision) -> Found
+// The first of n rows that is not below a number and hash: it, or the gap before it. By halves.
+fn search(s: &[u8], base: usize, n: usize, number: RevNumber, hash: [u8; 16]) -> Found
     requires { ⌜ Searchable base n (now s) ⌝ }
-    ensures { λ r. ⌜ r ≡ placeOf 0 rev (treeAt base n (now (s .entry))) ⌝ }
+    ensures { λ r. ⌜ r ≡ placeOf 0 (revision (number .0) hash) (treeAt base n (now (s .entry))) ⌝ }
 {
     let mut lo = 0;
     let mut hi = n;
     while lo < hi {
         let mid = lo + (hi - lo) / 2;
-        match compare_at(rev, s, base + mid * 48) {
+        match compare_at(number, hash, s, base + mid * 48) {
             Order::Less => {
                 hi = mid;
             }
@@ -86,19 +87,29 @@ fn search(s: &[u8], base: usize, n: usize, rev: Revision) -> Found
 }
 
 // The same. The last row is tried first, since a history mostly grows at its end.
-pub fn find(s: &[u8], base: usize, n: usize, rev: Revision) -> Found
+fn seek(s: &[u8], base: usize, n: usize, number: RevNumber, hash: [u8; 16]) -> Found
     requires { ⌜ Searchable base n (now s) ⌝ }
-    ensures { λ r. ⌜ r ≡ placeOf 0 rev (treeAt base n (now (s .entry))) ⌝ }
+    ensures { λ r. ⌜ r ≡ placeOf 0 (revision (number .0) hash) (treeAt base n (now (s .entry))) ⌝ }
 {
     if n == 0 {
         return Found::Gap(0);
     }
     let last = n - 1;
-    match compare_at(rev, s, base + last * 48) {
-        Order::Less => search(s, base, last, rev),
+    match compare_at(number, hash, s, base + last * 48) {
+        Order::Less => search(s, base, last, number, hash),
         Order::Equal => Found::At(last),
         Order::Greater => Found::Gap(n),
     }
+}
+
+// Where rev is among n rows.
+pub fn find(s: &[u8], base: usize, n: usize, rev: Revision) -> Found
+    requires { ⌜ Searchable base n (now s) ⌝ }
+    ensures { λ r. ⌜ r ≡ placeOf 0 rev (treeAt base n (now (s .entry))) ⌝ }
+{
+    let number = rev.number;
+    let hash = rev.hash;
+    seek(s, base, n, number, hash)
 }
 
 // Whether rev is not among n rows.

@@ -5,6 +5,7 @@ use native.Mathlib.Omega.{arith}
 use lib.ListN.{length}
 use borrow.Author.Needs.{needs}
 use Rattle.rules.specs.Order.{orderRev}
+use Rattle.rules.specs.Replica.{revision}
 use Rattle.rules.specs.declared.Order.the-variants.{Equal, Greater, Less}
 use Rattle.tree.proofs.SearchLaws.{Over, Under, found-here, gap-between, over-from, over-none, rev-in, revIn, under-next, under-none}
 use Rattle.tree.proofs.TableLaws.{length-tree}
@@ -13,10 +14,11 @@ use Rattle.tree.proofs.table.search.Tie as tie
 use Rattle.tree.specs.Table.{treeAt}
 
 abbrev Inv-loop : tie.InvT-loop
-Inv-loop s base n rev lo₀ hi₀ lo hi = (lo ≤ hi) × (hi ≤ n) × Under (treeAt base n s) rev lo × Over (treeAt base n s) rev hi
+Inv-loop s base n number hash lo₀ hi₀ lo hi =
+    (lo ≤ hi) × (hi ≤ n) × Under (treeAt base n s) (revision (number .0) hash) lo × Over (treeAt base n s) (revision (number .0) hash) hi
 
 abbrev μ-loop : tie.MeasureT-loop
-μ-loop s base n rev lo₀ hi₀ lo hi = hi - lo
+μ-loop s base n number hash lo₀ hi₀ lo hi = hi - lo
 
 loop-holds : tie.Need-loop-holds Inv-loop μ-loop
 loop-holds c = let a = (c .before) .args in (omega arith, omega arith, under-none _ _, over-none _ _ _ (length-tree (a .base) (a .n) (a .s .now)))
@@ -50,8 +52,8 @@ loop-again c =
     let t = treeAt (a .base) (a .n) (a .s .now) in
     let m : mid < a .n = omega arith in
     let m′ : mid < length t = rw (length-tree (a .base) (a .n) (a .s .now)) m in
-    let o : orderRev (a .rev) (revIn t mid) ≡ Less = rw (rev-in (a .base) (a .n) mid (a .s .now) m) (sym ((c .before .before .compare-at) .ensures) ∙ (c .enum-told) .given .1) in
-    (omega arith, omega arith, l .inv .2, over-from t (a .rev) mid ((c .before .before .before .before .before .before) .pre .ascending) m′ o)
+    let o : orderRev (revision (a .number .0) (a .hash)) (revIn t mid) ≡ Less = rw (rev-in (a .base) (a .n) mid (a .s .now) m) (sym ((c .before .before .compare-at) .ensures) ∙ (c .enum-told) .given .1) in
+    (omega arith, omega arith, l .inv .2, over-from t (revision (a .number .0) (a .hash)) mid ((c .before .before .before .before .before .before) .pre .ascending) m′ o)
 
 enum-told-2 : tie.Need-enum-told-2 Inv-loop μ-loop
 enum-told-2 c = search needs
@@ -64,8 +66,8 @@ returns c =
     let t = treeAt (a .base) (a .n) (a .s .now) in
     let m : mid < a .n = omega arith in
     let m′ : mid < length t = rw (length-tree (a .base) (a .n) (a .s .now)) m in
-    let o : orderRev (a .rev) (revIn t mid) ≡ Equal = rw (rev-in (a .base) (a .n) mid (a .s .now) m) (sym ((c .before .before .compare-at) .ensures) ∙ (c .enum-told2) .given .1) in
-    sym (found-here t (a .rev) mid ((c .before .before .before .before .before .before) .pre .ascending) m′ o)
+    let o : orderRev (revision (a .number .0) (a .hash)) (revIn t mid) ≡ Equal = rw (rev-in (a .base) (a .n) mid (a .s .now) m) (sym ((c .before .before .compare-at) .ensures) ∙ (c .enum-told2) .given .1) in
+    sym (found-here t (revision (a .number .0) (a .hash)) mid ((c .before .before .before .before .before .before) .pre .ascending) m′ o)
 
 enum-told-3 : tie.Need-enum-told-3 Inv-loop μ-loop
 enum-told-3 c = search needs
@@ -84,8 +86,8 @@ loop-again-2 c =
     let t = treeAt (a .base) (a .n) (a .s .now) in
     let m : mid < a .n = omega arith in
     let m′ : mid < length t = rw (length-tree (a .base) (a .n) (a .s .now)) m in
-    let o : orderRev (a .rev) (revIn t mid) ≡ Greater = rw (rev-in (a .base) (a .n) mid (a .s .now) m) (sym ((c .before .before .compare-at) .ensures) ∙ (c .enum-told3) .given .1) in
-    (omega arith, omega arith, under-next t (a .rev) mid ((c .before .before .before .before .before .before) .pre .ascending) m′ o, l .inv .3)
+    let o : orderRev (revision (a .number .0) (a .hash)) (revIn t mid) ≡ Greater = rw (rev-in (a .base) (a .n) mid (a .s .now) m) (sym ((c .before .before .compare-at) .ensures) ∙ (c .enum-told3) .given .1) in
+    (omega arith, omega arith, under-next t (revision (a .number .0) (a .hash)) mid ((c .before .before .before .before .before .before) .pre .ascending) m′ o, l .inv .3)
 
 returns-2 : tie.Need-returns-2 Inv-loop μ-loop
 returns-2 c =
@@ -93,7 +95,7 @@ returns-2 c =
     let l = (c .before .loop) in
     let t = treeAt (a .base) (a .n) (a .s .now) in
     let e : l .hi ≡ l .lo = omega arith in
-    sym (gap-between (a .rev) t (l .lo) (rw (length-tree (a .base) (a .n) (a .s .now)) (omega arith)) (l .inv .2) (rw e at (l .inv .3)))
+    sym (gap-between (revision (a .number .0) (a .hash)) t (l .lo) (rw (length-tree (a .base) (a .n) (a .s .now)) (omega arith)) (l .inv .2) (rw e at (l .inv .3)))
 
 pub search-spec : {M : Type 1} → statement M
 search-spec =

@@ -1,0 +1,67 @@
+-- `table::seek` meets its contract. Assumes nothing.
+use mathlib.Core.Path.{_∙_, sym}
+use native.Mathlib.Omega.{arith}
+use borrow.Author.Needs.{needs}
+use Rattle.rules.specs.Replica.{revision}
+use Rattle.tree.proofs.SearchLaws.{at-last, before-last, past-last, place-none, search-front}
+use Rattle.tree.proofs.table.seek.Statement.{statement}
+use Rattle.tree.proofs.table.seek.Tie as tie
+
+returns : tie.Need-returns
+returns c = let a = (c .before .before) .args in sym (place-none (a .base) (a .n) (revision (a .number .0) (a .hash)) (a .s .now) (c .if1 .taken))
+
+sub-last : tie.Need-sub-last
+sub-last c = search needs
+
+mul-compare-at : tie.Need-mul-compare-at
+mul-compare-at c = search needs
+
+add-compare-at : tie.Need-add-compare-at
+add-compare-at c = search needs
+
+compare-at-requires : tie.Need-compare-at-requires
+compare-at-requires c κs = search needs
+
+enum-told : tie.Need-enum-told
+enum-told c = search needs
+
+search-requires : tie.Need-search-requires
+search-requires c κs = let a = (c .before .before .before .before .before) .args in search-front (a .base) (a .n) (revision (a .number .0) (a .hash)) (a .s .now) ((c .before .before .before .before .before) .pre) (omega arith)
+
+enum-told-2 : tie.Need-enum-told-2
+enum-told-2 c = search needs
+
+enum-told-3 : tie.Need-enum-told-3
+enum-told-3 c = search needs
+
+returns-2 : tie.Need-returns-2
+returns-2 c =
+    let a = (c .before .before .before .before .before .before) .args in
+    c .search .ensures ∙ before-last (a .base) (a .n) (revision (a .number .0) (a .hash)) (a .s .now) ((c .before .before .before .before .before .before) .pre) (omega arith) (sym ((c .before .before .before .compare-at) .ensures) ∙ (c .before .enum-told) .given .1)
+
+returns-3 : tie.Need-returns-3
+returns-3 c =
+    let a = (c .before .before .before .before .before) .args in
+    sym (at-last (a .base) (a .n) (revision (a .number .0) (a .hash)) (a .s .now) ((c .before .before .before .before .before) .pre) (omega arith) (sym ((c .before .before .compare-at) .ensures) ∙ (c .enum-told2) .given .1))
+
+returns-4 : tie.Need-returns-4
+returns-4 c =
+    let a = (c .before .before .before .before .before) .args in
+    sym (past-last (a .base) (a .n) (revision (a .number .0) (a .hash)) (a .s .now) ((c .before .before .before .before .before) .pre) (omega arith) (sym ((c .before .before .compare-at) .ensures) ∙ (c .enum-told3) .given .1))
+
+pub seek-spec : {M : Type 1} → statement M
+seek-spec =
+    tie.close
+    (tie.spec
+    returns
+    sub-last
+    mul-compare-at
+    add-compare-at
+    compare-at-requires
+    enum-told
+    search-requires
+    enum-told-2
+    enum-told-3
+    returns-2
+    returns-3
+    returns-4)
