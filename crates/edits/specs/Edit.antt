@@ -36,7 +36,7 @@ namedParent named v = pick named (some v) none
 abbrev pub parentFrom : Tree → Bool → Revision → Option Revision
 parentFrom t named v = maybe (deletedWinner t) some (namedParent named v)
 
--- "Naming a parent, that parent must be a leaf ..; naming none, the content must be live, and either
+-- "Naming a parent, that parent must be a leaf"; "Naming none, the content must be live, and either
 -- the document is absent .. or its winner is a deletion"
 abbrev pub ruleFrom : Tree → Content → Bool → Revision → Bool
 ruleFrom t c named v =

@@ -94,7 +94,7 @@ pub seqs-back : (es : List Entry) → AllFalse (badSeqs [] es)
     → Each (λ n. 1 ≤ n) (map (λ (e : Entry). e .seq) es) × Distinct (map (λ (e : Entry). e .seq) es)
 seqs-back es h = let r = tests-back [] (map (λ (e : Entry). e .seq) es) (subst AllFalse (seqs-tests [] es) h) in (r .least, r .distinct)
 
--- "no other document has this sequence", by `find`
+-- no other document has this sequence, by `find`
 abbrev pub OwnSeqs : Map Id Document → Type 0
 OwnSeqs ds = (i j : Id) (d e : Document) → find orderBytes i ds ≡ some d → find orderBytes j ds ≡ some e → e .seq ≡ d .seq → j ≡ i
 

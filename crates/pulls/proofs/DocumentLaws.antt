@@ -2,7 +2,7 @@
 use mathlib.Core.Path.{_≡_, refl, sym, ap, _∙_, subst}
 use mathlib.Core.Bool.{Bool, true, false}
 use mathlib.Core.List.{List, [], _∷_}
-use mathlib.Core.Logic.{inl, inr}
+use mathlib.Core.Logic.{inl, inr, _↔_}
 use mathlib.Core.Option.{none, some}
 use Prim.Native.Nat.{ℕ, _≤_, _<_}
 use native.Mathlib.Omega.{arith}
@@ -17,8 +17,9 @@ use Rattle.rules.specs.Replica.{Id, Document, Replica, documentOf, IsReplica}
 use Rattle.rules.specs.Union.{In}
 use Rattle.rules.proofs.MapLaws.{none≢some, some-inj}
 use Rattle.rules.proofs.OrderLaws.{bytesOrder, no-less-self}
-use Rattle.union.proofs.Count.{below-all, in-find}
-use Rattle.union.proofs.Offers.{after-out}
+use Rattle.union.proofs.Count.{below-all, find-in, in-find}
+use Rattle.union.proofs.Offers.{after-in, after-out}
+use Rattle.pulls.specs.Pulls.{Rising}
 
 abbrev own : Id × Document → ℕ
 own d = d .1 .seq .0
@@ -110,11 +111,6 @@ after-above s q (d ∷ ds) h = go (split (own d) (s .0)) (split (own d) (q .0)) 
 
 -- ---- their sequences rise
 
--- each is below all that follow
-abbrev Rising : List (Id × Document) → Type 0
-Rising [] = Unit {0}
-Rising (d ∷ ds) = ((y : Id × Document) → In y ds → own d < own y) × Rising ds
-
 -- no two have the same
 abbrev Apart : List (Id × Document) → Type 0
 Apart [] = Unit {0}
@@ -162,7 +158,7 @@ rising-after s (d ∷ ds) a = go (split (own d) (s .0)) (rising-after s ds (a .1
     go (most l) ih = rw (after-skip s d ds l) ih
     go (more l) ih = rw (after-keep s d ds l) (rising-insert d (documentsAfter s ds) ih (λ y m. a .0 y (after-out s ds y m)))
 
--- "those whose own is above s"
+-- their own sequence is above s
 after-over : (s : Seq) (ds : Map Id Document) (y : Id × Document) → In y (documentsAfter s ds) → s .0 < own y
 unfolding documentsAfter
 after-over s [] y m = absurd m
@@ -176,7 +172,7 @@ after-over s (d ∷ ds) y m = go (split (own d) (s .0)) (λ n. after-over s ds y
     go (most l) ih = ih (subst (λ (l : List (Id × Document)). In y l) (after-skip s d ds l) m)
     go (more l) ih = at l ih (insert-out d (documentsAfter s ds) y (subst (λ (l : List (Id × Document)). In y l) (after-keep s d ds l) m))
 
--- "no other document has this sequence"
+-- no two documents have one sequence
 apart : (r : Replica) → IsReplica r → Apart (r .documents)
 unfolding documentOf
 apart r k = go (r .documents) (k .ascending) (λ d m. m)
@@ -194,6 +190,19 @@ apart r k = go (r .documents) (k .ascending) (λ d m. m)
           (rw (here d y (sub d (inl refl)) (sub y (inr m)) e) at (below-all bytesOrder (d .0) ds (a .0) (a .1) y m))),
       go ds (a .1) (λ y m. sub y (inr m)),
     )
+
+-- "the source documents after that sequence": those whose own is above it
+pub documents-after : (r : Replica) → IsReplica r → (s : Seq) (i : Id) (d : Document)
+    → In (i, d) (documentsAfter s (r .documents)) ↔ ((documentOf r i ≡ some d) × (s .0 < d .seq .0))
+unfolding documentOf
+documents-after r k s i d = (
+  λ m. (in-find bytesOrder (r .documents) (k .ascending) (i, d) (after-out s (r .documents) (i, d) m), after-over s (r .documents) (i, d) m),
+  λ h. after-in s (r .documents) (i, d) (h .1) (find-in bytesOrder (r .documents) i d (h .0)),
+)
+
+-- "Documents come in order of their sequence"
+pub documents-rise : (r : Replica) → IsReplica r → (s : Seq) → Rising (documentsAfter s (r .documents))
+documents-rise r k s = rising-after s (r .documents) (apart r k)
 
 -- ---- one after the other
 

@@ -5,7 +5,9 @@ use Prim.Native.Nat.{ℕ, suc, _+_, _<_, _≤_}
 use native.Mathlib.Omega.{arith}
 use lib.ListN.{length, length-append}
 use Rattle.rules.specs.declared.Counts.{Counts}
+use Rattle.rules.specs.declared.Next.the-variants.{Nobody, At}
 use Rattle.rules.specs.declared.Seq.{Seq}
+use Rattle.rules.specs.Answer.{Numbered}
 use Rattle.rules.specs.Pull.{offer, offersOf, offersIn, offers, count, noCounts, take-in, pull}
 use Rattle.rules.specs.Read.{leaves, documentsAfter}
 use Rattle.rules.specs.Replica.{Id, Document, Replica}
@@ -18,7 +20,7 @@ use Rattle.store.specs.Documents.{documentsOf, documentAt}
 use Rattle.store.proofs.FitLaws.{stored-laid}
 use Rattle.store.proofs.StoredLaws.{size-laid, length-map}
 use Rattle.reads.specs.Next.{IsNext}
-use Rattle.reads.specs.declared.replica.Next.the-variants.{Nobody, At}
+use Rattle.reads.proofs.NextLaws.{seq-path}
 use Rattle.pulls.specs.Pulls.{CanPull, Pulled, pathRoom, Offered, CanOfferAll}
 use Rattle.pulls.proofs.DocumentLaws.{after-next}
 
@@ -69,7 +71,7 @@ module _ (s : List ℕ) (q₀ : Seq) (t₀ : List ℕ) (can : CanPull s t₀) wh
       next-is : documentsAfter q (documentsOf s) ≡ x ∷ documentsAfter q′ (documentsOf s)
       next-is =
           after-next (replicaOf s) (can .source .replica) q x (next .1)
-          ∙ ap (λ (z : Seq). x ∷ documentsAfter z (documentsOf s)) (sym (next .2))
+          ∙ ap (λ (z : Seq). x ∷ documentsAfter z (documentsOf s)) (sym (seq-path q′ (x .1 .seq) (ap (λ (z : Numbered). z .value) (next .2))))
 
       pub rest-falls : length (documentsAfter q′ (documentsOf s)) < length (documentsAfter q (documentsOf s))
       rest-falls = let e : length (documentsAfter q (documentsOf s)) ≡ suc (length (documentsAfter q′ (documentsOf s))) = ap length next-is in omega arith

@@ -1,6 +1,6 @@
 -- What a pull and its steps ask for and promise.
 use mathlib.Core.Path.{_≡_}
-use mathlib.Core.List.{List}
+use mathlib.Core.List.{List, [], _∷_}
 use Prim.Native.Nat.{ℕ, _+_, _*_, _<_, _≤_}
 use lib.ListN.{length}
 use Rattle.rules.specs.declared.Content.{Content}
@@ -11,8 +11,9 @@ use Rattle.rules.specs.declared.Written.{Written}
 use Rattle.rules.specs.Bytes.{join}
 use Rattle.rules.specs.Pull.{take-in, pull}
 use Rattle.rules.specs.Read.{leaves, pathOf}
-use Rattle.rules.specs.Replica.{Id, Tree}
+use Rattle.rules.specs.Replica.{Id, Tree, Document}
 use Rattle.rules.specs.Room.{revisionsMost, hashesMost, hashSize}
+use Rattle.rules.specs.Union.{In}
 use Rattle.rules.specs.Write.{Write, write}
 use Rattle.union.specs.Said.{total}
 use Rattle.tree.specs.Table.{treeAt, Searchable}
@@ -21,6 +22,11 @@ use Rattle.store.specs.Storage.{replicaOf, stored, IsStored}
 use Rattle.store.specs.Documents.{documentsOf, documentAt}
 
 -- ---- the pull
+
+-- "Documents come in order of their sequence": each has a lower one than all that follow
+abbrev pub Rising : List (Id × Document) → Type 0
+Rising [] = Unit {0}
+Rising (d ∷ ds) = ((y : Id × Document) → In y ds → d .1 .seq .0 < y .1 .seq .0) × Rising ds
 
 pub record CanPull (s t : List ℕ) : Type 0 where
   pub source : IsStored s

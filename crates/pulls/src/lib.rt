@@ -2,10 +2,10 @@
 // Every leaf of the source's documents after a sequence is offered to the target with its whole known
 // path, and what became of each offer is counted. It uses the crates rules, octets, union, tree,
 // store, reads and writes.
-use reads::replica::Next;
 use reads::replica::next_after;
 use rules::Content;
 use rules::Counts;
+use rules::Next;
 use rules::Outcome;
 use rules::PATH_HASHES;
 use rules::Revision;

@@ -13,9 +13,12 @@ use lib.ListN.{length, drop, drop-of-length-le}
 use lib.Seq.{drop-cons}
 use Rattle.rules.specs.declared.Changes.{Changes}
 use Rattle.rules.specs.declared.Changes.the-variants as changed
+use Rattle.rules.specs.declared.Next.{Next}
+use Rattle.rules.specs.declared.Next.the-variants.{Nobody, At}
 use Rattle.rules.specs.declared.Refusal.the-variants.{ShortBuffer}
 use Rattle.rules.specs.declared.Seq.{Seq}
-use Rattle.rules.specs.Choice.{pick}
+use Rattle.rules.specs.Answer.{Numbered, accepted, nextNumber}
+use Rattle.rules.specs.Choice.{pick, maybe}
 use Rattle.rules.specs.Map.{Map, Ascending}
 use Rattle.rules.specs.Order.{orderBytes}
 use Rattle.rules.specs.Outcome.{Does}
@@ -28,8 +31,6 @@ use Rattle.union.proofs.Count.{below-all}
 use Rattle.octets.specs.Splice.{splice}
 use Rattle.store.specs.Storage.{replicaOf, IsStored}
 use Rattle.store.specs.Documents.{documentsOf, noDocument, documentAt}
-use Rattle.reads.specs.declared.replica.Next.{Next}
-use Rattle.reads.specs.declared.replica.Next.the-variants.{Nobody, At}
 use Rattle.reads.specs.Next.{sooner, IsNext, deletionWins, changeRead}
 use Rattle.reads.proofs.AnswerLaws.{lend-short, lend-answers}
 
@@ -81,11 +82,11 @@ module _ (s : Seq) (ds : Map Id Document) (j : ℕ) (within : j < length ds) whe
   next-at : (b c : Bool) (d : ℕ) (p : Seq) → ltb (s .0) (x .1 .seq .0) ≡ b → leb (x .1 .seq .0) (p .0) ≡ c → IsNext s (j + 1) ds (At d p)
       → IsNext s j ds (pick (b && c) (At j (x .1 .seq)) (At d p))
   next-at true true d p e f h =
-      let g : leb (x .1 .seq .0) (documentAt ds d .1 .seq .0) ≡ true = rw (sym (h .2)) f in
+      let g : leb (x .1 .seq .0) (documentAt ds d .1 .seq .0) ≡ true = rw (sym (ap (λ (z : Numbered). z .value) (h .2))) f in
       let z : documentsAfter s (drop j ds) ≡ insertBySeq x behind = after-cons ∙ rw e in
       (within, ap firstOf z ∙ (first-insert x behind (documentAt ds d) (h .1) ∙ rw g), refl)
   next-at true false d p e f h =
-      let g : leb (x .1 .seq .0) (documentAt ds d .1 .seq .0) ≡ false = rw (sym (h .2)) f in
+      let g : leb (x .1 .seq .0) (documentAt ds d .1 .seq .0) ≡ false = rw (sym (ap (λ (z : Numbered). z .value) (h .2))) f in
       let z : documentsAfter s (drop j ds) ≡ insertBySeq x behind = after-cons ∙ rw e in
       (h .0, ap firstOf z ∙ (first-insert x behind (documentAt ds d) (h .1) ∙ rw g), h .2)
   next-at false c d p e f h =
@@ -104,6 +105,11 @@ next-more s ds k j q n m e l f g h = rw (g, f) (step s ds j (omega arith) n (rw 
 pub next-none : (s : Seq) (ds : Map Id Document) (k : ℕ) → k ≡ length ds → IsNext s k ds Nobody
 unfolding documentsAfter
 next-none s ds k e = rw (drop-of-length-le ds {i = k} (omega arith))
+
+-- its number: the own sequence of the first document after s, 0 where there is "no more"
+pub next-says : (s : Seq) (ds : Map Id Document) (n : Next) → IsNext s 0 ds n → nextNumber n ≡ accepted (maybe 0 (λ x. x .1 .seq .0) (firstOf (documentsAfter s ds)))
+next-says s ds Nobody h = rw h refl
+next-says s ds (At d q) h = rw (h .1) (h .2)
 
 -- ---- the call
 
@@ -161,6 +167,9 @@ at-once (x ∷ ds) a zero (suc e) h k q = absurd (no-less-self bytesOrder (x .0)
 at-once (x ∷ ds) a (suc d) zero h k q = absurd (no-less-self bytesOrder (x .0) (rw q at (below-all bytesOrder (x .0) ds (a .0) (a .1) (documentAt ds d) (in-at ds d (omega arith)))))
 at-once (x ∷ ds) a (suc d) (suc e) h k q = ap suc (at-once ds (a .1) d e (omega arith) (omega arith) q)
 
+pub seq-path : (p q : Seq) → p .0 ≡ q .0 → p ≡ q
+seq-path p q e = λ i. record { 0 = e i }
+
 pub one-next : (after : Seq) (s : List ℕ) → IsStored s → (m n : Next) → IsNext after 0 (documentsOf s) m → IsNext after 0 (documentsOf s) n → m ≡ n
 one-next after s k Nobody Nobody p q = refl
 one-next after s k Nobody (At e y) p q = absurd (none≢some (sym (ap firstOf p) ∙ q .1))
@@ -169,4 +178,4 @@ one-next after s k (At d x) (At e y) p q =
     let f : documentAt (documentsOf s) d ≡ documentAt (documentsOf s) e = some-inj (sym (p .1) ∙ q .1) in
     ap₂ At
     (at-once (documentsOf s) (k .replica .ascending) d e (p .0) (q .0) (ap (λ (z : Id × Document). z .0) f))
-    (p .2 ∙ (ap (λ (z : Id × Document). z .1 .seq) f ∙ sym (q .2)))
+    (seq-path x y (ap (λ (z : Numbered). z .value) (p .2 ∙ (ap (λ (z : Id × Document). accepted (z .1 .seq .0)) f ∙ sym (q .2)))))

@@ -4,6 +4,7 @@ use rules::Change;
 use rules::Changes;
 use rules::Content;
 use rules::Held;
+use rules::Next;
 use rules::Refusal;
 use rules::Seq;
 use store::read::body_of;
@@ -24,12 +25,6 @@ ghost use Rattle.tree.specs.Table.{treeAt};
 ghost use Rattle.store.specs.Storage.{replicaOf, IsStored};
 ghost use Rattle.reads.specs.Reads.{CanRead};
 ghost use Rattle.reads.specs.Next.{sooner, IsNext, HasTree, changeRead, deletionWins};
-
-// A document and its own sequence, or none.
-pub enum Next {
-    Nobody,
-    At(usize, Seq),
-}
 
 // Document d, whose own sequence is q, where that is above `after` and not above what was found; else
 // what was found.

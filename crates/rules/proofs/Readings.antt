@@ -372,7 +372,7 @@ pub missing-read : map readAs
 unfolding pieces join any firstThat find alter orderN orderBytes orderRev sameRev documentOf treeOf revisionsHeld hashes along gives addAll added isNew isAddition adds countNew badId badPath lowNumber otherParent otherContent documentsFull revisionsFull sequenceSpent roomRefusals writeRefusals write writeAll leaves orderLeaf highest winner be leafBytes ancestry pathOf value valueFrom askedRev missingByte missing insertBySeq documentsAfter front shortBuffer reads documentRefusals readWinner readLeaves readPath readMissing changeOf readChanges
 missing-read = refl
 
--- "a" was written first and again last, "bb" between, as a deletion
+-- the document a was written first and again last, bb between, as a deletion
 abbrev pub pair : Replica
 pair = after
     (on (0x61 ∷ []) 1 (0x20 ∷ []) (Live 1)
@@ -409,7 +409,7 @@ changes-read = refl
 
 -- ---- the image
 
--- documents "a" (rows 0 to 2) and "b" (rows 3 and 4, the parent of the last being all zeros)
+-- documents a (rows 0 to 2) and b (rows 3 and 4, the parent of the last being all zeros)
 abbrev pub two : Replica
 two = after
     (on (0x61 ∷ []) 1 (0x10 ∷ []) (Live 1)
@@ -698,8 +698,8 @@ goes-on = refl
 abbrev pub offerAs : Write → Id × List ℕ
 offerAs w = (w .id, w .path)
 
--- "after a given sequence", "Documents come in order of their sequence": of `pair` after 0 "bb" comes
--- before "a", whose leaves come highest first; after 2 only "a"; after 4 nothing
+-- "after a given sequence", "Documents come in order of their sequence": of `pair` after 0 bb comes
+-- before a, whose leaves come highest first; after 2 only a; after 4 nothing
 pub offered : map (λ s. map offerAs (offers (record { 0 = s }) pair)) (0 ∷ 2 ∷ 4 ∷ [])
     ≡ ((0x62 ∷ 0x62 ∷ [], hash 0x20) ∷ (0x61 ∷ [], hash 0x40 ++ hash 0x20) ∷ (0x61 ∷ [], hash 0x30 ++ hash 0x20) ∷ [])
     ∷ ((0x61 ∷ [], hash 0x40 ++ hash 0x20) ∷ (0x61 ∷ [], hash 0x30 ++ hash 0x20) ∷ [])

@@ -9,6 +9,8 @@ use Rattle.rules.specs.declared.Edited.{Edited}
 use Rattle.rules.specs.declared.Edited.the-variants as edited
 use Rattle.rules.specs.declared.Loaded.{Loaded}
 use Rattle.rules.specs.declared.Loaded.the-variants as loaded
+use Rattle.rules.specs.declared.Next.{Next}
+use Rattle.rules.specs.declared.Next.the-variants as next
 use Rattle.rules.specs.declared.Outcome.{Outcome}
 use Rattle.rules.specs.declared.Outcome.the-variants.{Changed, Unchanged}
 use Rattle.rules.specs.declared.Written.{Written}
@@ -50,6 +52,12 @@ abbrev pub changesNumber : Changes → Numbered
 changesNumber (changes.Next c) = accepted 1
 changesNumber changes.NoMore = accepted 0
 changesNumber (changes.Refused n) = refused (refusalNumber n)
+
+-- "the document with the lowest own sequence above s", by "that sequence"; 0 for "no more", since no own
+-- sequence is 0
+abbrev pub nextNumber : Next → Numbered
+nextNumber next.Nobody = accepted 0
+nextNumber (next.At place q) = accepted (q .0)
 
 -- "an image refusal also its place"
 abbrev pub loadedNumber : Loaded → Numbered

@@ -79,7 +79,7 @@ abbrev pub parentHash : Option Revision → Hash
 parentHash none = replicate hashSize 0
 parentHash (some p) = p .hash
 
--- "number (4), hash (16), kind (1), parent known (1), zero (2), parent hash (16), label (8)"
+-- "Row, 48 bytes": its fields in their order
 unfoldable pub rowBytes : Revision × Node → List ℕ
 rowBytes v =
     be 4 (v .0 .number .0)
@@ -266,7 +266,7 @@ unfoldable pub inEach : (List Row → List Bool) → List (List Row) → List Bo
 inEach f [] = []
 inEach f (ws ∷ rest) = f ws ++ inEach f rest
 
--- "a parent is the row with the number one lower and that hash"
+-- a known parent is the row numbered one lower with the parent hash: "A parent's number is one lower."
 unfoldable pub parentOfRow : Row → Option Revision
 parentOfRow w = pick (eqb (w .flag) 0) none (some (revision (pred (w .rev .number .0)) (w .parent)))
 

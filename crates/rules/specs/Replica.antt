@@ -77,7 +77,7 @@ Leaf t v = Known t v × (HasChild t v → ⊥)
 
 -- ---- what every replica satisfies
 
--- "Revisions held": of all documents together
+-- "revisions held": of all documents together
 unfoldable pub revisionsHeld : Map Id Document → ℕ
 revisionsHeld [] = 0
 revisionsHeld (d ∷ ds) = length (d .1 .tree) + revisionsHeld ds
@@ -93,7 +93,7 @@ pub record IsId (i : Id) : Type 0 where
   pub least : 1 ≤ length i
   pub most : length i ≤ idMost
 
--- "Numbers run from 1 to 4,294,967,295"; "the hash is sixteen bytes"
+-- "Numbers run from 1 to 4,294,967,295"; "The hash is sixteen bytes"
 pub record IsRevision (v : Revision) : Type 0 where
   pub bytes : Bytes (v .hash)
   pub size : length (v .hash) ≡ hashSize

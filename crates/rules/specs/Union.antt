@@ -1,13 +1,13 @@
 -- Demand 3: the union "stated from what is given or held, never by running writes or pulls".
 use mathlib.Core.Path.{_≡_}
-use mathlib.Core.Bool.{true}
 use mathlib.Core.List.{List, [], _∷_}
 use mathlib.Core.Logic.{_↔_, _⊎_}
 use mathlib.Core.Option.{none, some}
-use Prim.Native.Nat.{_≤_, _<_}
+use Prim.Native.Nat.{_≤_}
 use lib.ListN.{length}
 use Rattle.rules.specs.declared.Content.{Content}
 use Rattle.rules.specs.declared.Order.the-variants.{Less}
+use Rattle.rules.specs.declared.Refusal.the-variants.{SequenceSpent}
 use Rattle.rules.specs.declared.Revision.{Revision}
 use Rattle.rules.specs.declared.Seq.{Seq}
 use Rattle.rules.specs.declared.Written.{Written}
@@ -18,7 +18,7 @@ use Rattle.rules.specs.Map.{Map}
 use Rattle.rules.specs.Read.{LeafOf, orderLeaf, winner}
 use Rattle.rules.specs.Replica.{Id, Node, Tree, Document, Replica, documentOf, treeOf, Known, HasParent, HasContent, Leaf, IsContent}
 use Rattle.rules.specs.Room.{documentsMost, revisionsMost, last}
-use Rattle.rules.specs.Write.{Write, gives, formRefusals, adds, write}
+use Rattle.rules.specs.Write.{Write, gives, formRefusals, write}
 
 abbrev pub In : {A : Type 0} → A → List A → Type 0
 In x [] = ⊥
@@ -87,7 +87,7 @@ unfoldable pub trees : Map Id Document → Map Id Tree
 trees [] = []
 trees (d ∷ ds) = (d .0, d .1 .tree) ∷ trees ds
 
--- "they differ in sequences only"
+-- the same but for sequences
 abbrev pub SameButSeq : Replica → Replica → Type 0
 SameButSeq r s = trees (r .documents) ≡ trees (s .documents)
 
@@ -141,10 +141,10 @@ abbrev pub AllAccepted : List Write → Replica → Type 0
 AllAccepted [] r = Unit {0}
 AllAccepted (w ∷ ws) r = IsAccepted (write r w .0) × AllAccepted ws (write r w .1)
 
--- "neither runs out of sequence": where a write adds something there is a sequence left
+-- "neither runs out of sequence": none of the writes is answered 8
 abbrev pub SeqSuffices : List Write → Replica → Type 0
 SeqSuffices [] r = Unit {0}
-SeqSuffices (w ∷ ws) r = (adds r w ≡ true → r .seq .0 < last) × SeqSuffices ws (write r w .1)
+SeqSuffices (w ∷ ws) r = (write r w .0 ≡ Refused SequenceSpent → ⊥) × SeqSuffices ws (write r w .1)
 
 -- "pulling all of one into the other"
 abbrev pub allFrom : Seq

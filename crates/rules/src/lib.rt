@@ -117,11 +117,17 @@ pub struct Change {
     pub deleted: bool,
 }
 
-// The answer to "changes after".
+// The answer to changes after a sequence.
 pub enum Changes {
     Next(Change),
     NoMore,
     Refused(Refusal),
+}
+
+// Which document changes comes to next: its place among the documents and its own sequence, or none.
+pub enum Next {
+    Nobody,
+    At(usize, Seq),
 }
 
 // The answer of a load: refused with the fault and its place.

@@ -1,5 +1,5 @@
 -- What a write or an edit leaves by cases, and the document it writes apart from the others. Assumes nothing.
-use mathlib.Core.Path.{_≡_, refl, sym, _∙_, subst}
+use mathlib.Core.Path.{_≡_, refl, sym, ap, _∙_, subst}
 use mathlib.Core.Bool.{Bool, true, false}
 use mathlib.Core.Option.{Option, none, some}
 use Prim.Native.Nat.{ℕ}
@@ -86,6 +86,19 @@ write-stays r w = go (firstThat (writeRefusals r w)) (adds r w)
     go (some m) b n = refl
     go none true n = absurd (n refl)
     go none false n = refl
+
+-- a refused write was refused by the first condition that holds
+pub refused-by : (r : Replica) (w : Write) (n : Refusal) → write r w .0 ≡ Refused n → firstThat (writeRefusals r w) ≡ some n
+unfolding write
+refused-by r w n = go (firstThat (writeRefusals r w)) (adds r w)
+  where
+    left : Bool → Written × Replica
+    left b = pick b (Accepted Changed, added r w) (Accepted Unchanged, r)
+
+    go : (o : Option Refusal) (b : Bool) → settle Refused r (left b) o .0 ≡ Refused n → o ≡ some n
+    go (some m) b q = let e : m ≡ n = cc in ap some e
+    go none true q = absurd (let z : _≡_ {A = ℕ} 0 1 = cc in omega arith)
+    go none false q = absurd (let z : _≡_ {A = ℕ} 0 1 = cc in omega arith)
 
 pub write-refused : (r : Replica) (w : Write) (n : Refusal) → write r w .0 ≡ Refused n → write r w .1 ≡ r
 write-refused r w n e = write-stays r w (λ q. let z : _≡_ {A = ℕ} 0 1 = cc in omega arith)

@@ -24,5 +24,7 @@ pub mod WriteLeaves
 pub mod Offers
 pub mod Pulls
 pub mod TwoWay
+pub mod Accepted
+pub mod Apart
 pub mod Ready
 pub mod Instances

@@ -270,7 +270,7 @@ after-out s (d ∷ ds) x m = go (ltb (s .0) (d .1 .seq .0)) m (λ n. after-out s
     go true m ih = elim (insert-in d (documentsAfter s ds) x .0 m) [ inl q ↦ inl q | inr n ↦ inr (ih n) ]
     go false m ih = inr (ih m)
 
--- "those whose own is above s"
+-- all whose own sequence is above s
 pub after-in : (s : Seq) (ds : List (Id × Document)) (x : Id × Document) → s .0 < x .1 .seq .0 → In x ds → In x (documentsAfter s ds)
 unfolding documentsAfter
 after-in s [] x h m = m
@@ -299,7 +299,7 @@ offers-in [] d w m n = absurd m
 offers-in (x ∷ ds) d w (inl q) n = in-left w (offersOf x) (offersIn ds) (subst (λ (z : Id × Document). In w (offersOf z)) q n)
 offers-in (x ∷ ds) d w (inr m) n = in-right w (offersOf x) (offersIn ds) (offers-in ds d w m n)
 
-length-held : (ds : List (Id × Document)) (d : Id × Document) → In d ds → length (d .1 .tree) ≤ revisionsHeld ds
+pub length-held : (ds : List (Id × Document)) (d : Id × Document) → In d ds → length (d .1 .tree) ≤ revisionsHeld ds
 unfolding revisionsHeld
 length-held [] d m = absurd m
 length-held (x ∷ xs) d (inl q) = let e : length (d .1 .tree) ≡ length (x .1 .tree) = ap (λ (z : Id × Document). length (z .1 .tree)) q in omega arith

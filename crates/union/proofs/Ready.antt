@@ -5,25 +5,32 @@ use mathlib.Core.List.{List, [], _∷_}
 use mathlib.Core.Logic.{inl, inr}
 use mathlib.Core.Option.{Option, none, some}
 use Prim.Native.Nat.{ℕ, _≤_}
-use lib.Dec.{leb, ltb}
+use lib.Dec.{eqb, leb, ltb}
 use lib.ListN.{length}
 use borrow.Author.Tests.{leb-false, ltb-false}
 use Rattle.rules.specs.declared.Content.{Content}
 use Rattle.rules.specs.declared.Content.the-variants.{Live, Deleted}
 use Rattle.rules.specs.declared.Order.the-variants.{Equal}
+use Rattle.rules.specs.declared.Refusal.the-variants.{SequenceSpent}
 use Rattle.rules.specs.declared.Revision.{Revision}
+use Rattle.rules.specs.declared.Written.{Written}
+use Rattle.rules.specs.declared.Written.the-variants.{Accepted, Refused}
 use Rattle.rules.specs.Bytes.{Bytes}
 use Rattle.rules.specs.Choice.{any, firstThat}
 use Rattle.rules.specs.Order.{orderBytes, isEqual, sameRev}
-use Rattle.rules.specs.Replica.{Id, Node, IsContent}
+use Rattle.rules.specs.Refusal.{refusalNumber}
+use Rattle.rules.specs.Replica.{Id, Node, Replica, IsContent}
 use Rattle.rules.specs.Room.{documentsMost, revisionsMost, last, labels}
-use Rattle.rules.specs.Union.{In, Gives, given, WellFormed, Compatible, Fits}
-use Rattle.rules.specs.Write.{Write, gives, isNone, differ, agree, formRefusals}
+use Rattle.rules.specs.Union.{In, Gives, given, WellFormed, Compatible, Fits, SeqSuffices}
+use Rattle.rules.specs.Write.{Write, gives, isNone, differ, agree, formRefusals, write}
 use Rattle.rules.proofs.OrderLaws.{TotalOrder, bytesOrder, revOrder}
+use Rattle.union.specs.Said.{answers}
 use Rattle.union.proofs.Lists.{any-out}
 use Rattle.union.proofs.Trees.{Entry}
+use Rattle.union.proofs.Sets.{compatible-within, fits-within}
 use Rattle.union.proofs.Refusals.{or-false}
 use Rattle.union.proofs.Keeps.{agree-true, differ-out, sameRev-true}
+use Rattle.union.proofs.Orders.{part}
 
 -- ---- well-formed
 
@@ -178,3 +185,24 @@ ready ws e =
       compatible = compatible-if ws (b .0);
       fits = fits-if ws (ltb-false documentsMost (length (idsOf ws)) (c .0)) (ltb-false revisionsMost (length (revisionsOf ws)) (c .1));
     }
+
+-- writes among others that are ready, in any order and with any repeats, are ready too
+pub ready-part : (ws vs : List Write) → ((w : Write) → In w ws → In w vs) → Ready vs → Ready ws
+ready-part ws vs h k = record {
+  well-formed = λ w m. k .well-formed w (h w m);
+  compatible = compatible-within (given ws) (given vs) (part ws vs h) (k .compatible);
+  fits = fits-within (given ws) (given vs) (part ws vs h) (k .fits);
+}
+
+-- ---- and of the sequence: none of the answers is 8
+
+unfoldable pub isSpent : Written → Bool
+isSpent (Accepted o) = false
+isSpent (Refused n) = eqb (refusalNumber n) (refusalNumber SequenceSpent)
+
+pub suffices-if : (ws : List Write) (r : Replica) → any isSpent (answers r ws) ≡ false → SeqSuffices ws r
+unfolding answers isSpent
+suffices-if [] r e = tt
+suffices-if (w ∷ ws) r e =
+    let t = or-false (isSpent (write r w .0)) (any isSpent (answers (write r w .1) ws)) (unfold any in e) in
+    (λ q. true≢false (sym (ap isSpent q) ∙ t .0), suffices-if ws (write r w .1) (t .1))

@@ -1,17 +1,22 @@
 -- The refusals of a write as facts: what none of them says, and that where each fails the write is not refused. Assumes nothing.
-use mathlib.Core.Path.{_≡_, refl, sym}
+use mathlib.Core.Path.{_≡_, refl, sym, ap}
 use mathlib.Core.Bool.{Bool, true, false, not, _||_, true≢false}
 use mathlib.Core.List.{List, [], _∷_}
-use mathlib.Core.Option.{none}
+use mathlib.Core.Logic.{inl, inr}
+use mathlib.Core.Option.{none, some}
 use Prim.Native.Nat.{_%_}
+use native.Mathlib.Omega.{arith}
 use lib.Dec.{eqb, ltb}
 use lib.ListN.{length}
 use Rattle.rules.specs.declared.Refusal.{Refusal}
-use Rattle.rules.specs.Choice.{any, firstThat}
+use Rattle.rules.specs.declared.Refusal.the-variants.{BadId, BadPath, LowNumber, OtherParent, OtherContent, DocumentsFull, RevisionsFull, SequenceSpent}
+use Rattle.rules.specs.Choice.{pick, any, firstThat}
+use Rattle.rules.specs.Refusal.{refusalNumber}
 use Rattle.rules.specs.Replica.{Replica, treeOf}
 use Rattle.rules.specs.Room.{hashesMost, hashSize}
+use Rattle.rules.specs.Union.{In}
 use Rattle.rules.specs.Write.{Write, hashes, gives, otherParent, otherContent, badId, badPath, lowNumber, documentsFull, revisionsFull, sequenceSpent, formRefusals, roomRefusals, writeRefusals}
-use Rattle.rules.proofs.MapLaws.{none≢some}
+use Rattle.rules.proofs.MapLaws.{none≢some, some-inj}
 
 pub or-false : (a b : Bool) → (a || b) ≡ false → (a ≡ false) × (b ≡ false)
 or-false true b e = absurd (true≢false e)
@@ -30,6 +35,16 @@ none-first (t ∷ ts) e = go (t .0) refl (λ q. none-first ts q)
     go : (b : Bool) → t .0 ≡ b → (firstThat ts ≡ none → NoneHolds ts) → (t .0 ≡ false) × NoneHolds ts
     go true q ih = absurd (none≢some (sym (rw q at e)))
     go false q ih = (q, ih (rw q at e))
+
+-- what is first of them holds
+pub first-holds : (ts : List (Bool × Refusal)) (n : Refusal) → firstThat ts ≡ some n → In (true, n) ts
+unfolding firstThat
+first-holds [] n e = absurd (none≢some e)
+first-holds (t ∷ ts) n e = go (t .0) refl e (λ q. first-holds ts n q)
+  where
+    go : (b : Bool) → t .0 ≡ b → pick b (some (t .1)) (firstThat ts) ≡ some n → (firstThat ts ≡ some n → In (true, n) ts) → In (true, n) (t ∷ ts)
+    go true q e ih = inl (λ i. (sym q i, sym (some-inj e) i))
+    go false q e ih = inr (ih e)
 
 -- 1 to 3 do not refuse
 pub record Well (w : Write) : Type 0 where
@@ -76,3 +91,22 @@ passed r w e =
 pub unrefused : (r : Replica) (w : Write) → Passed r w → firstThat (writeRefusals r w) ≡ none
 unfolding writeRefusals roomRefusals firstThat
 unrefused r w p = rw (p .form .id-ok, p .form .path-ok, p .form .number-ok, p .four, p .five, p .six, p .seven, p .eight) refl
+
+-- 8 is answered only where the sequence is spent
+pub spent-only : (r : Replica) (w : Write) → firstThat (writeRefusals r w) ≡ some SequenceSpent → sequenceSpent r w ≡ true
+unfolding writeRefusals roomRefusals
+spent-only r w e = go (first-holds (writeRefusals r w) SequenceSpent e)
+  where
+    other : (b : Bool) (n : Refusal) → _≡_ {A = Bool × Refusal} (true, SequenceSpent) (b, n) → refusalNumber n ≡ 8
+    other b n q = ap (λ (t : Bool × Refusal). refusalNumber (t .1)) (sym q)
+
+    go : In (true, SequenceSpent) (writeRefusals r w) → sequenceSpent r w ≡ true
+    go (inl q) = absurd (let n = other (badId (w .id)) BadId q in omega arith)
+    go (inr (inl q)) = absurd (let n = other (badPath w) BadPath q in omega arith)
+    go (inr (inr (inl q))) = absurd (let n = other (lowNumber w) LowNumber q in omega arith)
+    go (inr (inr (inr (inl q)))) = absurd (let n = other (any (otherParent (treeOf r (w .id))) (gives w)) OtherParent q in omega arith)
+    go (inr (inr (inr (inr (inl q))))) = absurd (let n = other (any (otherContent (treeOf r (w .id))) (gives w)) OtherContent q in omega arith)
+    go (inr (inr (inr (inr (inr (inl q)))))) = absurd (let n = other (documentsFull r (w .id)) DocumentsFull q in omega arith)
+    go (inr (inr (inr (inr (inr (inr (inl q))))))) = absurd (let n = other (revisionsFull r w) RevisionsFull q in omega arith)
+    go (inr (inr (inr (inr (inr (inr (inr (inl q)))))))) = ap (λ (t : Bool × Refusal). t .0) (sym q)
+    go (inr (inr (inr (inr (inr (inr (inr (inr q)))))))) = absurd q

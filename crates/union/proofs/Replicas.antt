@@ -4,21 +4,22 @@ use mathlib.Core.Bool.{Bool, true, false, _&&_, true≢false}
 use mathlib.Core.List.{List, [], _∷_}
 use mathlib.Core.Logic.{inl, inr}
 use mathlib.Core.Option.{Option, none, some}
-use Prim.Native.Nat.{_+_, _≤_, _<_}
+use Prim.Native.Nat.{_+_, _≤_}
 use native.Mathlib.Omega.{arith}
 use lib.Dec.{eqb, leb}
 use lib.ListN.{length}
-use borrow.Author.Tests.{le-ltb, lt-leb, ne-eqb}
+use borrow.Author.Tests.{le-ltb, lt-leb}
 use Rattle.rules.specs.declared.Outcome.the-variants.{Changed, Unchanged}
+use Rattle.rules.specs.declared.Refusal.the-variants.{SequenceSpent}
 use Rattle.rules.specs.declared.Written.{Written}
-use Rattle.rules.specs.declared.Written.the-variants.{Accepted}
-use Rattle.rules.specs.Choice.{pick}
+use Rattle.rules.specs.declared.Written.the-variants.{Accepted, Refused}
+use Rattle.rules.specs.Choice.{pick, any, firstThat}
 use Rattle.rules.specs.Map.{find, Ascending}
 use Rattle.rules.specs.Order.{orderBytes}
 use Rattle.rules.specs.Replica.{Id, Hash, Document, Replica, treeIn, documentOf, treeOf, revisionsHeld}
-use Rattle.rules.specs.Room.{documentsMost, revisionsMost, last}
+use Rattle.rules.specs.Room.{documentsMost, revisionsMost}
 use Rattle.rules.specs.Union.{In, Fits, IsAccepted}
-use Rattle.rules.specs.Write.{Write, hashes, along, gives, addAll, added, adds, isNone, documentsFull, revisionsFull, sequenceSpent, countNew, write}
+use Rattle.rules.specs.Write.{Write, hashes, along, gives, addAll, added, adds, isNone, otherParent, otherContent, documentsFull, revisionsFull, sequenceSpent, countNew, roomRefusals, writeRefusals, write}
 use Rattle.rules.proofs.OrderLaws.{bytesOrder, revOrder}
 use Rattle.rules.proofs.MapLaws.{ascending-alter}
 use Rattle.union.proofs.Nodes.{AtSome}
@@ -58,10 +59,6 @@ some-entry w k = go (hashes w) (path-parts w (k .path-ok) .1)
     go : (hs : List Hash) → eqb (length hs) 0 ≡ false → (x : Entry) × In x (along (w .number .0) hs (some (w .content)))
     go [] e = absurd (true≢false e)
     go (h ∷ hs) e = (_, inl refl)
-
-and-false : (a b : Bool) → (a ≡ true → b ≡ false) → (a && b) ≡ false
-and-false true b h = h refl
-and-false false b h = refl
 
 -- ---- one write
 
@@ -162,18 +159,24 @@ module _ (r : Replica) (w : Write) (G : Givens) (a : Holds r G) (g : (i : Id) �
       let q = revisions-fit (added r w) (G ⊎w w) (holds-added r w G a g k) f in
       le-ltb revisionsMost (revisionsHeld (r .documents) + countNew (treeOf r (w .id)) (gives w)) (omega (arith, p, q))
 
-  passes : (adds r w ≡ true → r .seq .0 < last) → Passed r w
-  unfolding sequenceSpent
-  passes q = record {
-    form = k;
-    four = not-crossed (treeOf r (w .id)) (G (w .id)) (gives w) (rep-now r w G a g k) (agree-here r w G a g k);
-    five = not-other (treeOf r (w .id)) (G (w .id)) (gives w) (rep-now r w G a g k) (agree-here r w G a g k);
-    six = not-full;
-    seven = room;
-    eight = and-false (adds r w) (eqb (r .seq .0) last) (λ e. let h = q e in ne-eqb (r .seq .0) last (λ z. omega arith));
-  }
+  four : any (otherParent (treeOf r (w .id))) (gives w) ≡ false
+  four = not-crossed (treeOf r (w .id)) (G (w .id)) (gives w) (rep-now r w G a g k) (agree-here r w G a g k)
 
-  pub step : ((i : Id) → Closed (G i)) → (adds r w ≡ true → r .seq .0 < last) → IsAccepted (write r w .0) × Holds (write r w .1) (G ⊎w w)
+  five : any (otherContent (treeOf r (w .id))) (gives w) ≡ false
+  five = not-other (treeOf r (w .id)) (G (w .id)) (gives w) (rep-now r w G a g k) (agree-here r w G a g k)
+
+  -- 8 is all that is left to refuse
+  eight : (write r w .0 ≡ Refused SequenceSpent → ⊥) → sequenceSpent r w ≡ false
+  eight q = go (sequenceSpent r w) refl
+    where
+      go : (b : Bool) → sequenceSpent r w ≡ b → b ≡ false
+      go true e = absurd (q (unfold write writeRefusals roomRefusals firstThat in rw (k .id-ok, k .path-ok, k .number-ok, four, five, not-full, room, e) refl))
+      go false e = refl
+
+  passes : (write r w .0 ≡ Refused SequenceSpent → ⊥) → Passed r w
+  passes q = record { form = k; four = four; five = five; six = not-full; seven = room; eight = eight q }
+
+  pub step : ((i : Id) → Closed (G i)) → (write r w .0 ≡ Refused SequenceSpent → ⊥) → IsAccepted (write r w .0) × Holds (write r w .1) (G ⊎w w)
   step c q =
       subst (λ (o : Written × Replica). IsAccepted (o .0) × Holds (o .1) (G ⊎w w)) (sym (accepted r w (unrefused r w (passes q)))) (go (adds r w) refl)
     where

@@ -1,30 +1,34 @@
 -- From fresh the sequence never runs out: each change adds a revision or a parent. Assumes nothing.
 use mathlib.Core.Path.{_≡_, refl, sym, ap, ap₂, _∙_}
-use mathlib.Core.Bool.{Bool, true, false, _||_, true≢false}
+use mathlib.Core.Bool.{Bool, true, false, _&&_, _||_, true≢false}
 use mathlib.Core.List.{List, [], _∷_}
 use mathlib.Core.Logic.{inl, inr}
 use mathlib.Core.Option.{Option, none, some}
 use Prim.Native.Nat.{ℕ, suc, _+_, _≤_, _<_}
 use native.Mathlib.Omega.{arith}
+use lib.Dec.{eqb}
 use lib.ListN.{length}
+use borrow.Author.Tests.{eqb-true}
 use Rattle.rules.specs.declared.Order.{Order}
 use Rattle.rules.specs.declared.Order.the-variants.{Less, Equal, Greater}
+use Rattle.rules.specs.declared.Refusal.the-variants.{SequenceSpent}
 use Rattle.rules.specs.declared.Revision.{Revision}
+use Rattle.rules.specs.declared.Written.the-variants.{Refused}
 use Rattle.rules.specs.Choice.{orElse, maybe, any}
 use Rattle.rules.specs.Map.{Map, find}
 use Rattle.rules.specs.Order.{orderBytes, orderRev}
 use Rattle.rules.specs.Replica.{Id, Node, Tree, Document, Replica, fresh, treeIn, documentOf, treeOf, revisionsHeld}
 use Rattle.rules.specs.Room.{last}
 use Rattle.rules.specs.Union.{In, given, Compatible, Fits, writeAll, SeqSuffices}
-use Rattle.rules.specs.Write.{Write, gives, learn, addAll, added, lacksParent, isAddition, adds, write}
+use Rattle.rules.specs.Write.{Write, gives, learn, addAll, added, lacksParent, isAddition, adds, sequenceSpent, write}
 use Rattle.rules.proofs.OrderLaws.{less≢equal, equal≢greater, bytesOrder, revOrder}
 use Rattle.rules.proofs.MapLaws.{find-same, find-other}
 use Rattle.union.proofs.Trees.{Agrees, Entry, add}
 use Rattle.union.proofs.Paths.{Closed}
 use Rattle.union.proofs.Count.{on, sum, sum-alter, sum-at}
 use Rattle.union.proofs.Sets.{Givens, None, Plus, _⊎w_, agrees, closed-none, closed-w, compatible-within, fits-within, only-given, things, within-sub}
-use Rattle.union.proofs.Refusals.{Well}
-use Rattle.union.proofs.Cases.{now, write-by}
+use Rattle.union.proofs.Refusals.{Well, spent-only}
+use Rattle.union.proofs.Cases.{now, refused-by, write-by}
 use Rattle.union.proofs.Replicas.{Holds, revisions-fit, step}
 use Rattle.union.proofs.Fold.{holds-fresh, one-within, rest-within}
 
@@ -171,9 +175,18 @@ seq-twice ws =
 write-seq : (r : Replica) (w : Write) → write r w .1 .seq .0 ≤ suc (r .seq .0)
 write-seq r w = write-by r w (λ s. s .seq .0 ≤ suc (r .seq .0)) (omega arith) (λ e n. unfold added in omega arith)
 
+-- where a sequence is left, 8 is not answered
+not-spent : (r : Replica) (w : Write) → r .seq .0 < last → write r w .0 ≡ Refused SequenceSpent → ⊥
+unfolding sequenceSpent
+not-spent r w h e = no (adds r w) (spent-only r w (refused-by r w SequenceSpent e))
+  where
+    no : (b : Bool) → (b && eqb (r .seq .0) last) ≡ true → ⊥
+    no true q = let z = eqb-true (r .seq .0) last q in omega arith
+    no false q = true≢false (sym q)
+
 pub suffices-room : (ws : List Write) (r : Replica) → r .seq .0 + length ws ≤ last → SeqSuffices ws r
 suffices-room [] r h = tt
-suffices-room (w ∷ ws) r h = (λ e. omega arith, suffices-room ws (write r w .1) (let t = write-seq r w in omega arith))
+suffices-room (w ∷ ws) r h = (not-spent r w (omega arith), suffices-room ws (write r w .1) (let t = write-seq r w in omega arith))
 
 -- ---- from fresh
 
@@ -181,8 +194,8 @@ suffices-from : (ws : List Write) (r : Replica) (G : Givens) → Holds r G → (
     → ((w : Write) → In w ws → Well w) → Compatible (things (Plus G ws)) → Fits (things (Plus G ws)) → r .seq .0 ≤ replicaWeight r → SeqSuffices ws r
 suffices-from [] r G a c k g f h = tt
 suffices-from (w ∷ ws) r G a c k g f h = (
-  λ e. small,
-  suffices-from ws (write r w .1) (G ⊎w w) (step r w G a g1 (k w (inl refl)) f1 c (λ e. small) .1) (closed-w G w c) (λ v m. k v (inr m))
+  not-spent r w small,
+  suffices-from ws (write r w .1) (G ⊎w w) (step r w G a g1 (k w (inl refl)) f1 c (not-spent r w small) .1) (closed-w G w c) (λ v m. k v (inr m))
       (compatible-within (things (Plus (G ⊎w w) ws)) (things (Plus G (w ∷ ws))) (rest-within G w ws) g)
       (fits-within (things (Plus (G ⊎w w) ws)) (things (Plus G (w ∷ ws))) (rest-within G w ws) f)
       (write-weight r w h),

@@ -1,5 +1,4 @@
 -- Pulling all of one replica into another and back leaves both with the union of what they held. Assumes nothing.
-use mathlib.Core.Path.{_≡_, refl}
 use mathlib.Core.List.{List, _++_}
 use native.Mathlib.Omega.{arith}
 use Rattle.rules.specs.Pull.{offers}
@@ -49,10 +48,10 @@ module _ (g : Things) (c : Compatible g) (f : Fits g) (a b : Replica) (ka : IsRe
 
 module _ (all : List Write) (k : (w : Write) → In w all → WellFormed w) (c : Compatible (given all)) (f : Fits (given all))
     (ws : List Write) (sub : (w : Write) → In w ws → In w all) where
-  sound : IsReplica (writeAll ws fresh)
+  pub sound : IsReplica (writeAll ws fresh)
   sound = made ws (λ w m. k w (sub w m))
 
-  sound-within : Within (held (writeAll ws fresh)) (given all)
+  pub sound-within : Within (held (writeAll ws fresh)) (given all)
   sound-within =
       let p = part ws all sub in
       let u = union-of-writes ws (λ w m. k w (sub w m)) (compatible-within (given ws) (given all) p c) (fits-within (given ws) (given all) p f) in

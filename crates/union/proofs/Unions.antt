@@ -1,5 +1,5 @@
 -- What holds a closed set is its union, and a union is one thing: its trees, list for list. Assumes nothing.
-use mathlib.Core.Path.{_≡_, refl, sym, ap, _∙_}
+use mathlib.Core.Path.{_≡_, refl, sym, ap, _∙_, subst}
 use mathlib.Core.List.{[], _∷_}
 use mathlib.Core.Logic.{inl, inr, _↔_}
 use mathlib.Core.Option.{Option, none, some}
@@ -150,6 +150,46 @@ union-again m s g h u k t = union-alike s (both (held m) h) g same t
       );
     }
 
+-- a union put together with further things is the union of all of them, where only revisions have contents
+pub union-then : (m s : Replica) (g h : Things) → ((i : Id) (v : Revision) (c : Content) → g .content i v c → g .revision i v)
+    → IsUnion m g → IsUnion s (both (held m) h) → IsUnion s (both g h)
+union-then m s g h only u t = union-alike s (both (held m) h) (both g h) same t
+  where
+    revision-to : (i : Id) (v : Revision) → both (held m) h .revision i v → both g h .revision i v
+    revision-to i v (inl a) = inl (u .revisions i v .0 a)
+    revision-to i v (inr b) = inr b
+
+    revision-from : (i : Id) (v : Revision) → both g h .revision i v → both (held m) h .revision i v
+    revision-from i v (inl a) = inl (u .revisions i v .1 a)
+    revision-from i v (inr b) = inr b
+
+    parent-to : (i : Id) (v p : Revision) → both (held m) h .parent i v p → both g h .parent i v p
+    parent-to i v p (inl a) = inl (u .parents i v p .0 a)
+    parent-to i v p (inr b) = inr b
+
+    parent-from : (i : Id) (v p : Revision) → both g h .parent i v p → both (held m) h .parent i v p
+    parent-from i v p (inl a) = inl (u .parents i v p .1 a)
+    parent-from i v p (inr b) = inr b
+
+    content-to : (i : Id) (v : Revision) (c : Content) → both (held m) h .content i v c → both g h .content i v c
+    content-to i v c (inl a) = inl (u .contents i v c .0 a .1)
+    content-to i v c (inr b) = inr b
+
+    -- what has no child in both has none in g, so that m holds its content
+    content-from : (i : Id) (v : Revision) (c : Content) → ((w : Revision) → both g h .parent i w v → ⊥) → both g h .content i v c → both (held m) h .content i v c
+    content-from i v c n (inl a) = inl (u .contents i v c .1 ((only i v c a, λ w b. n w (inl b)), a))
+    content-from i v c n (inr b) = inr b
+
+    same : Alike (both (held m) h) (both g h)
+    same = record {
+      revisions = λ i v. (revision-to i v, revision-from i v);
+      parents = λ i v p. (parent-to i v p, parent-from i v p);
+      contents = λ i v c. (
+        λ a. ((revision-to i v (a .0 .0), λ w b. a .0 .1 w (parent-from i w v b)), content-to i v c (a .1)),
+        λ a. ((revision-from i v (a .0 .0), λ w b. a .0 .1 w (parent-to i w v b)), content-from i v c (a .0 .1) (a .1)),
+      );
+    }
+
 -- ---- a union is one thing
 
 abbrev treeMay : Option Document → Option Tree
@@ -225,7 +265,7 @@ unfolding treeOr
 tree-or none = refl
 tree-or (some d) = refl
 
--- replicas that differ in sequences only have the same tree for each id, so the same winner
+-- replicas that are the same but for sequences have the same tree for each id, so the same winner
 pub same-tree : (r s : Replica) → SameButSeq r s → (i : Id) → treeOf r i ≡ treeOf s i
 unfolding treeOf
 same-tree r s e i =
@@ -234,3 +274,11 @@ same-tree r s e i =
 
 pub same-winner : (r s : Replica) → SameButSeq r s → (i : Id) → winner (treeOf r i) ≡ winner (treeOf s i)
 same-winner r s e i = ap winner (same-tree r s e i)
+
+-- and hold parts of the same things
+pub same-within : (r s : Replica) (g : Things) → SameButSeq r s → Within (held s) g → Within (held r) g
+same-within r s g e k = record {
+  revisions = λ i v m. k .revisions i v (subst (λ (t : Tree). Known t v) (same-tree r s e i) m);
+  parents = λ i v p m. k .parents i v p (subst (λ (t : Tree). HasParent t v p) (same-tree r s e i) m);
+  contents = λ i v c m. k .contents i v c (subst (λ (t : Tree). HasContent t v c) (same-tree r s e i) m);
+}

@@ -1,6 +1,6 @@
 -- The leaves of a tree as a list, and its winner: the leaf that none is above. Assumes nothing.
 use mathlib.Core.Path.{_≡_, refl, sym, ap, _∙_, subst}
-use mathlib.Core.List.{List, [], _∷_}
+use mathlib.Core.List.{List, [], _∷_, _++_}
 use mathlib.Core.Logic.{_⊎_, inl, inr, _↔_}
 use mathlib.Core.Option.{Option, none, some}
 use Prim.Native.Nat.{ℕ}
@@ -16,9 +16,10 @@ use Rattle.rules.specs.Replica.{Node, Tree, HasContent}
 use Rattle.rules.specs.Union.{In}
 use Rattle.rules.proofs.OrderLaws.{bytesOrder, revOrder, no-less-self, rev-path}
 use Rattle.rules.proofs.MapLaws.{none≢some, some-inj}
+use Rattle.union.specs.Said.{Descending}
 use Rattle.union.proofs.Lists.{in-cases, in-left, in-right}
 use Rattle.union.proofs.Trees.{Entry}
-use Rattle.union.proofs.Count.{find-in, in-find}
+use Rattle.union.proofs.Count.{below-all, find-in, in-find}
 
 abbrev pub leafOf : Revision → Content → LeafOf
 leafOf v c = record { rev = v; content = c }
@@ -64,6 +65,29 @@ module _ (t : Tree) (s : Ascending orderRev t) where
       let n : p .0 ≡ q .0 = some-inj (sym (p .1) ∙ (ap (λ (v : Revision). find orderRev v t) e ∙ q .1)) in
       let c : a .content ≡ b .content = some-inj (sym (p .2) ∙ (ap (λ (z : Node). z .content) n ∙ q .2)) in
       λ i. record { rev = e i; content = c i }
+
+-- ---- their order
+
+descend-end : (xs ys : List LeafOf) → Descending xs → Descending ys → ((a b : LeafOf) → In a xs → In b ys → orderRev (b .rev) (a .rev) ≡ Less) → Descending (xs ++ ys)
+descend-end [] ys d e h = e
+descend-end (x ∷ xs) ys d e h = (top, descend-end xs ys (d .1) e (λ a b m k. h a b (inr m) k))
+  where
+    top : (b : LeafOf) → In b (xs ++ ys) → orderRev (b .rev) (x .rev) ≡ Less
+    top b m = elim (in-cases b xs ys m) [ inl k ↦ d .0 b k | inr k ↦ h x b (inl refl) k ]
+
+one-descends : (v : Revision) (o : Option Content) → Descending (maybe [] (λ c. leafOf v c ∷ []) o)
+one-descends v none = tt
+one-descends v (some c) = (λ b m. absurd m, tt)
+
+pub leaves-descend : (t : Tree) → Ascending orderRev t → Descending (leaves t)
+unfolding leaves
+leaves-descend [] s = tt
+leaves-descend (x ∷ t) s =
+    descend-end (leaves t) (leafIn x) (leaves-descend t (s .1)) (one-descends (x .0) (x .1 .content))
+    (λ a b m k. let u = leaves-out t a m in
+    let v = leaf-out x (x .1 .content) refl b k in
+    subst (λ (z : Revision). orderRev z (a .rev) ≡ Less) (v .0)
+    (subst (λ (z : Revision). orderRev (x .0) z ≡ Less) (u .2) (below-all revOrder (x .0) t (s .0) (s .1) (u .0) (u .1))))
 
 -- ---- the highest of a list
 

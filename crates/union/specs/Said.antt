@@ -1,23 +1,26 @@
--- What the theorems say of an edit, of one write and of pulls, in the words of rules.
+-- What the theorems say of an edit, of one write, of reads and of pulls, in the words of rules.
 use mathlib.Core.Path.{_≡_}
 use mathlib.Core.Bool.{Bool, true, false}
 use mathlib.Core.List.{List, [], _∷_}
-use mathlib.Core.Option.{some}
+use mathlib.Core.Option.{Option, none, some}
 use Prim.Native.Nat.{ℕ, _+_}
 use lib.ListN.{length}
+use Rattle.rules.specs.declared.Change.{Change}
 use Rattle.rules.specs.declared.Counts.{Counts}
+use Rattle.rules.specs.declared.Order.the-variants.{Less}
 use Rattle.rules.specs.declared.Outcome.the-variants.{Changed, Unchanged}
 use Rattle.rules.specs.declared.Revision.{Revision}
 use Rattle.rules.specs.declared.Written.{Written}
 use Rattle.rules.specs.declared.Written.the-variants.{Accepted, Refused}
 use Rattle.rules.specs.Bytes.{Bytes}
-use Rattle.rules.specs.Choice.{pick}
+use Rattle.rules.specs.Choice.{pick, maybe}
 use Rattle.rules.specs.Edit.{Edit}
+use Rattle.rules.specs.Order.{orderRev}
 use Rattle.rules.specs.Pull.{offers, pull}
-use Rattle.rules.specs.Read.{leaves, winner}
-use Rattle.rules.specs.Replica.{Id, Document, Replica, documentOf, treeOf, IsContent}
+use Rattle.rules.specs.Read.{LeafOf, leaves, winner, readWinner, readLeaves, readPath, readMissing, changeOf}
+use Rattle.rules.specs.Replica.{Id, Document, Replica, documentOf, treeOf, revisionsHeld, IsContent}
 use Rattle.rules.specs.Room.{hashSize}
-use Rattle.rules.specs.Union.{given, held, both, IsUnion, SameButSeq, AllAccepted, allFrom}
+use Rattle.rules.specs.Union.{In, given, held, both, IsUnion, SameButSeq, AllAccepted, allFrom}
 use Rattle.rules.specs.Write.{Write, next, adds, write}
 
 -- what a call of an edit can be given: bytes, a hash of sixteen and a label in range
@@ -44,6 +47,38 @@ pub record Leaves (r : Replica) (w : Write) (left : Replica) : Type 1 where
   -- "A write to one document changes no answer about another document"
   pub others : (j : Id) → (j ≡ w .id → ⊥) → documentOf left j ≡ documentOf r j
 
+-- ---- one document and the others
+
+-- what changes says of the document i
+abbrev pub changeAbout : Replica → Id → Option Change
+changeAbout r i = maybe none (λ d. some (changeOf (i, d))) (documentOf r i)
+
+-- "changes no answer about another document's revisions, parents, leaves, contents, winner or own sequence":
+-- each read of the document i, whatever is lent to it, answers and writes alike on both replicas
+pub record SameAnswers (i : Id) (r s : Replica) : Type 0 where
+  pub winner : (out : List ℕ) → readWinner r i out ≡ readWinner s i out
+  pub leaves : (out : List ℕ) → readLeaves r i out ≡ readLeaves s i out
+  pub path : (v : Revision) (out : List ℕ) → readPath r i v out ≡ readPath s i v out
+  pub missing : (asked out : List ℕ) → readMissing r i asked out ≡ readMissing s i asked out
+  pub change : changeAbout r i ≡ changeAbout s i
+
+-- "Only the update sequence and the shared room connect them.": all that a write to the document i can
+-- depend on is alike
+pub record AlikeAt (i : Id) (r s : Replica) : Type 0 where
+  pub document : documentOf r i ≡ documentOf s i
+  pub seq : r .seq ≡ s .seq
+  pub documents : length (r .documents) ≡ length (s .documents)
+  pub revisions : revisionsHeld (r .documents) ≡ revisionsHeld (s .documents)
+
+-- ---- what reads answer
+
+-- "highest number first, then highest hash": each is above all that follow it
+abbrev pub Descending : List LeafOf → Type 0
+Descending [] = Unit {0}
+Descending (a ∷ more) = ((b : LeafOf) → In b more → orderRev (b .rev) (a .rev) ≡ Less) × Descending more
+
+-- ---- pulls
+
 -- b after "pulling all of one into the other", from a, and a after pulling that back
 abbrev pub there : Replica → Replica → Replica
 there a b = pull allFrom a b .1
@@ -57,7 +92,7 @@ pub record Agreed (a b : Replica) : Type 1 where
   pub accepted-back : AllAccepted (offers allFrom (there a b)) a
   pub union-there : IsUnion (there a b) (both (held a) (held b))
   pub union-back : IsUnion (back a b) (both (held a) (held b))
-  -- "they differ in sequences only"
+  -- they are the same but for sequences
   pub same : SameButSeq (there a b) (back a b)
   pub winners : (i : Id) → winner (treeOf (there a b) i) ≡ winner (treeOf (back a b) i)
 

@@ -6,3 +6,4 @@ pub mod Verdict
 pub mod Judge
 pub mod Apply
 pub mod Always
+pub mod Calls
