@@ -1,4 +1,4 @@
--- A test that is an "or" of others, by what follows where it fails. Assumes nothing.
+-- A disjunction of tests, by what follows where it fails. Assumes nothing.
 use mathlib.Core.Path.{_≡_, refl, sym}
 use mathlib.Core.Bool.{Bool, true, false}
 

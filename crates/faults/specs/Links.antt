@@ -39,7 +39,7 @@ pub record Ordered (base n : ℕ) (s : List ℕ) : Type 0 where
   pub most : n ≤ revisionsMost
   pub good : firstTrue 0 (badRows none (rowsAt base n s)) ≡ none
 
--- ---- "a parent is the row with the number one lower and that hash"
+-- ---- where a row's parent is: "A parent's number is one lower", and the row gives its hash
 
 -- the run to search for row j's parent, from the run for the row before it: the rows of one number lie together
 unfoldable pub runOn : ℕ → Run → ℕ → List ℕ → Run

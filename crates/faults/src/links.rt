@@ -44,11 +44,11 @@ fn lesser(a: usize, b: usize) -> usize
 }
 
 // The number of row j's revision.
-fn number(s: &[u8], base: usize, j: usize) -> u32
+fn number(s: &[u8], base: usize, j: usize) -> RevNumber
     requires { ⌜ base + j * rowSize + rowSize ≤ length (now s) ⌝ }
-    ensures { λ r. ⌜ NumberOn base j (now (s .entry)) r ⌝ }
+    ensures { λ r. ⌜ NumberOn base j (now (s .entry)) (r .0) ⌝ }
 {
-    get4(s, base + j * ROW)
+    RevNumber(get4(s, base + j * ROW))
 }
 
 // The run for row j. Rows of one number lie together, so it moves only where a number ends.
@@ -57,7 +57,9 @@ fn run_at(s: &[u8], base: usize, run: Run, j: usize) -> Run
     ensures { λ r. ⌜ r ≡ runOn base run j (now (s .entry)) ⌝ }
 {
     let hi = run.hi;
-    if number(s, base, hi) == number(s, base, j) {
+    let x = number(s, base, hi);
+    let y = number(s, base, j);
+    if x.0 == y.0 {
         return run;
     }
     Run { lo: hi, hi: j }
@@ -72,10 +74,11 @@ fn parent_of(s: &[u8], base: usize, run: Run, j: usize) -> Parent
     if s[at + 21] == 0 {
         return Parent::Unknown;
     }
-    let below = number(s, base, j) - 1;
+    let own = number(s, base, j);
+    let below = RevNumber(own.0 - 1);
     let hash = get_hash(s, at + 24);
     let rev = Revision {
-        number: RevNumber(below),
+        number: below,
         hash,
     };
     let lo = run.lo;

@@ -12,6 +12,7 @@ use rules::ENTRY;
 use rules::HEAD;
 use rules::Order;
 use rules::ROW;
+use rules::RevNumber;
 ghost use mathlib.Core.Path.{_≡_};
 ghost use mathlib.Core.Bool.{_||_, _&&_, not};
 ghost use mathlib.Core.Option.{none, some};
@@ -23,12 +24,12 @@ ghost use Rattle.faults.specs.Judged.{rowsFault};
 ghost use Rattle.faults.specs.Places.{placed, Listed, rowAt, rowsAt, revBefore, HasRows};
 
 // A parent at number 1, or the hash of a parent that is not known.
-fn parent_bad(s: &[u8], at: usize, flag: u8, number: u32) -> bool
+fn parent_bad(s: &[u8], at: usize, flag: u8, number: RevNumber) -> bool
     requires { ⌜ at + rowSize ≤ length (now s) ⌝ }
-    ensures { λ r. ⌜ r ≡ ((eqb flag 1 && eqb number 1) || (eqb flag 0 && not (allZero (rowAt at (now (s .entry)) .parent)))) ⌝ }
+    ensures { λ r. ⌜ r ≡ ((eqb flag 1 && eqb (number .0) 1) || (eqb flag 0 && not (allZero (rowAt at (now (s .entry)) .parent)))) ⌝ }
 {
     if flag == 1 {
-        return number == 1;
+        return number.0 == 1;
     }
     if flag == 0 {
         let a = at + 24;
@@ -54,7 +55,7 @@ fn row_bad(s: &[u8], at: usize) -> bool
     requires { ⌜ at + rowSize ≤ length (now s) ⌝ }
     ensures { λ r. ⌜ r ≡ badRow (rowAt at (now (s .entry))) ⌝ }
 {
-    let number = get4(s, at);
+    let number = RevNumber(get4(s, at));
     let kind = s[at + 20];
     let flag = s[at + 21];
     if 2 < kind {
@@ -66,7 +67,7 @@ fn row_bad(s: &[u8], at: usize) -> bool
     if get2(s, at + 22) != 0 {
         return true;
     }
-    if number == 0 {
+    if number.0 == 0 {
         return true;
     }
     if parent_bad(s, at, flag, number) {
@@ -85,12 +86,12 @@ fn order_bad(s: &[u8], base: usize, j: usize) -> bool
     }
     let b = base + j * ROW;
     let a = b - ROW;
-    let x = get4(s, a);
-    let y = get4(s, b);
-    if x < y {
+    let x = RevNumber(get4(s, a));
+    let y = RevNumber(get4(s, b));
+    if x.0 < y.0 {
         return false;
     }
-    if y < x {
+    if y.0 < x.0 {
         return true;
     }
     match order_hash_at(get_hash(s, a + 4), s, b + 4) {

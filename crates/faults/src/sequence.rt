@@ -5,6 +5,7 @@ use crate::head::update_sequence;
 use octets::number::get4;
 use rules::ENTRY;
 use rules::HEAD;
+use rules::Seq;
 ghost use mathlib.Core.Path.{_≡_};
 ghost use mathlib.Core.Bool.{_||_};
 ghost use Prim.Native.Nat.{ℕ, _+_, _*_, _≤_, _<_, max};
@@ -14,18 +15,18 @@ ghost use Rattle.rules.specs.Choice.{any};
 ghost use Rattle.rules.specs.Image.{badSequence, headSize, entrySize};
 ghost use Rattle.faults.specs.Places.{placed, Headed, seqsBefore, OwnSeq, seqAt};
 
-fn larger(a: u32, b: u32) -> u32
-    ensures { λ r. ⌜ r ≡ max a b ⌝ }
+fn larger(a: Seq, b: Seq) -> Seq
+    ensures { λ r. ⌜ r .0 ≡ max (a .0) (b .0) ⌝ }
 {
-    if a < b { b } else { a }
+    if a.0 < b.0 { b } else { a }
 }
 
 // The own sequence of entry i.
-fn own(s: &[u8], i: usize) -> u32
+fn own(s: &[u8], i: usize) -> Seq
     requires { ⌜ headSize + entrySize * i + entrySize ≤ length (now s) ⌝ }
-    ensures { λ r. ⌜ OwnSeq i (now (s .entry)) r ⌝ }
+    ensures { λ r. ⌜ OwnSeq i (now (s .entry)) (r .0) ⌝ }
 {
-    get4(s, HEAD + ENTRY * i + 36)
+    Seq(get4(s, HEAD + ENTRY * i + 36))
 }
 
 // It is 0, or one of those before it.
@@ -34,13 +35,14 @@ fn own_bad(s: &[u8], i: usize) -> bool
     ensures { λ r. ⌜ r ≡ (eqb (seqAt i (now (s .entry))) 0 || any (eqb (seqAt i (now (s .entry)))) (seqsBefore i (now (s .entry)))) ⌝ }
 {
     let q = own(s, i);
-    if q == 0 {
+    if q.0 == 0 {
         return true;
     }
     let mut j = i;
     while 0 < j {
         j -= 1;
-        if q == own(s, j) {
+        let p = own(s, j);
+        if q.0 == p.0 {
             return true;
         }
     }
@@ -52,7 +54,7 @@ pub(crate) fn sequence_fault(s: &[u8]) -> Place
     ensures { λ r. ⌜ placed r ≡ badSequence (now (s .entry)) ⌝ }
 {
     let d = documents(s);
-    let mut most = 0;
+    let mut most = Seq(0);
     let mut i = 0;
     while i < d {
         if own_bad(s, i) {
@@ -62,7 +64,7 @@ pub(crate) fn sequence_fault(s: &[u8]) -> Place
         i += 1;
     }
     let q = update_sequence(s);
-    if most == q.0 {
+    if most.0 == q.0 {
         return Place::Nowhere;
     }
     Place::At(d)

@@ -16,8 +16,6 @@ use Rattle.octets.proofs.number.put8.Kinds as put8
 use Rattle.octets.proofs.number.put8.Reads as put8'
 use Rattle.octets.proofs.order.order_bytes.Kinds as order-bytes
 use Rattle.octets.proofs.order.order_bytes.Reads as order-bytes'
-use Rattle.octets.proofs.order.order_hashes.Kinds as order-hashes
-use Rattle.octets.proofs.order.order_hashes.Reads as order-hashes'
 use Rattle.octets.proofs.order.order_hash_at.Kinds as order-hash-at
 use Rattle.octets.proofs.order.order_hash_at.Reads as order-hash-at'
 use Rattle.octets.proofs.order.same_bytes.Kinds as same-bytes
@@ -55,9 +53,6 @@ put8-outcome κs a x y s t h p q = (refl, fixed (p .is) (q .is))
 
 pub order-bytes-outcome : OneOutcome _ order-bytes.ps order-bytes.r order-bytes'.Asked order-bytes'.Learnt (λ κs s. tt {0})
 order-bytes-outcome κs a x y s t h p q = (fixed p q, refl)
-
-pub order-hashes-outcome : OneOutcome _ order-hashes.ps order-hashes.r order-hashes'.Asked order-hashes'.Learnt (λ κs s. tt {0})
-order-hashes-outcome κs a x y s t h p q = (fixed p q, refl)
 
 pub order-hash-at-outcome : OneOutcome _ order-hash-at.ps order-hash-at.r order-hash-at'.Asked order-hash-at'.Learnt (λ κs s. tt {0})
 order-hash-at-outcome κs a x y s t h p q = (fixed p q, refl)

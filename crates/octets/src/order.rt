@@ -59,14 +59,7 @@ fn order_word(x: u64, y: u64) -> Order
     Order::Equal
 }
 
-// Two hashes, "first byte first".
-pub fn order_hashes(g: [u8; 16], h: [u8; 16]) -> Order
-    ensures { λ r. ⌜ r ≡ orderBytes g h ⌝ }
-{
-    order_parts(&g, 0, &h, 0)
-}
-
-// A hash with the one that stands at `at`.
+// A hash with the one that stands at `at`, "first byte first".
 pub fn order_hash_at(h: [u8; 16], s: &[u8], at: usize) -> Order
     requires { ⌜ at + 16 ≤ length (now s) ⌝ }
     ensures { λ r. ⌜ r ≡ orderBytes h (part at 16 (now (s .entry))) ⌝ }

@@ -4,8 +4,6 @@ use Rattle.rules.specs.Outcome.{OneOutcome}
 use Rattle.rules.proofs.OutcomeLaws.{fixed}
 use Rattle.tree.proofs.row.put_row.Kinds as put-row
 use Rattle.tree.proofs.row.put_row.Reads as put-row'
-use Rattle.tree.proofs.row.compare.Kinds as compare
-use Rattle.tree.proofs.row.compare.Reads as compare'
 use Rattle.tree.proofs.table.row_at.Kinds as row-at
 use Rattle.tree.proofs.table.row_at.Reads as row-at'
 use Rattle.tree.proofs.table.rev_at.Kinds as rev-at
@@ -35,9 +33,6 @@ use Rattle.tree.proofs.path.put_path.Reads as put-path'
 
 pub put-row-outcome : OneOutcome _ put-row.ps put-row.r put-row'.Asked put-row'.Learnt (λ κs s. s .0 .now)
 put-row-outcome κs a x y s t h p q = (refl, fixed (p .is) (q .is))
-
-pub compare-outcome : OneOutcome _ compare.ps compare.r compare'.Asked compare'.Learnt (λ κs s. tt {0})
-compare-outcome κs a x y s t h p q = (fixed p q, refl)
 
 pub row-at-outcome : OneOutcome _ row-at.ps row-at.r row-at'.Asked row-at'.Learnt (λ κs s. tt {0})
 row-at-outcome κs a x y s t h p q = (fixed p q, refl)

@@ -4,7 +4,6 @@ use octets::number::get8;
 use octets::number::put4;
 use octets::number::put8;
 use octets::order::order_hash_at;
-use octets::order::order_hashes;
 use octets::run::get_hash;
 use octets::run::put_hash;
 use rules::Content;
@@ -136,25 +135,9 @@ pub fn put_row(s: &mut [u8], at: usize, row: Row)
     put8(s, at + 40, label_of(kind));
 }
 
-// By number, then by hash.
-pub fn compare(a: Revision, b: Revision) -> Order
-    ensures { λ r. ⌜ r ≡ orderRev a b ⌝ }
-{
-    let x = a.number;
-    let y = b.number;
-    if x.0 < y.0 {
-        return Order::Less;
-    }
-    if y.0 < x.0 {
-        return Order::Greater;
-    }
-    let g = a.hash;
-    let h = b.hash;
-    order_hashes(g, h)
-}
-
-// The same of a number and a hash with the revision of the row at `at`, which is compared where it
-// stands. They come apart, since a copy of both as one is slow right after they were put together.
+// A revision's number and hash, given apart, beside the revision of the row at `at`: by number, then by
+// hash. The row is compared where it stands. They come apart, since a copy of both as one is slow right
+// after they were put together.
 pub(crate) fn compare_at(number: RevNumber, hash: [u8; 16], s: &[u8], at: usize) -> Order
     requires { ⌜ at + 48 ≤ length (now s) ⌝ }
     ensures { λ r. ⌜ r ≡ orderRev (revision (number .0) hash) (revAt at (now (s .entry))) ⌝ }

@@ -28,10 +28,10 @@ returns c = let a = (c .before .before .before) .args in parent-none (a .base) (
 number-requires : tie.Need-number-requires
 number-requires c κs = search needs
 
-sub-below : tie.Need-sub-below
-sub-below c = let a = (c .before .before .before .before) .args in let p = (c .before .before .before .before) .pre in
+sub-t17 : tie.Need-sub-t17
+sub-t17 c = let a = (c .before .before .before .before .before) .args in let p = (c .before .before .before .before .before) .pre in
     let g = row-good (a .base) (p .n) (a .s .now) (p .ordered) (a .j) (p .here) .number in
-    let e = (c .number) .ensures .is in omega arith
+    let e = (c .before .number) .ensures .is in omega arith
 
 add-get-hash : tie.Need-add-get-hash
 add-get-hash c = search needs
@@ -49,7 +49,7 @@ sub-find : tie.Need-sub-find
 sub-find c = search needs
 
 find-requires : tie.Need-find-requires
-find-requires c κs = let a = (c .before .before .before .before .before .before) .args in let p = (c .before .before .before .before .before .before) .pre in
+find-requires c κs = let a = (c .before .before .before .before .before .before .before) .args in let p = (c .before .before .before .before .before .before .before) .pre in
     let w = p .serves .within in let h = p .here in
     run-searchable (a .base) (p .n) (a .s .now) (p .ordered) (a .run .lo) (a .run .hi) (p .serves .ordered) (omega arith)
 
@@ -57,7 +57,7 @@ enum-known-i : tie.Need-enum-known-i
 enum-known-i c = search needs
 
 add-there : tie.Need-add-there
-add-there c = let a = (c .before .before .before .before .before .before .before .before .before .before) .args in let p = (c .before .before .before .before .before .before .before .before .before .before) .pre in let s = a .s .now in
+add-there c = let a = (c .before .before .before .before .before .before .before .before .before .before .before) .args in let p = (c .before .before .before .before .before .before .before .before .before .before .before) .pre in let s = a .s .now in
     let f = run-found (a .base) (p .n) s (p .ordered) (a .j) (a .run) (p .here) (p .serves) (p .level) _ _ (sym ((c .before .before .before .find) .ensures) ∙ (c .before .i) .given .1) .0 in
     let m = p .ordered .most in omega arith
 
@@ -65,20 +65,20 @@ enum-told : tie.Need-enum-told
 enum-told c = search needs
 
 returns-2 : tie.Need-returns-2
-returns-2 c = let a = (c .before .before .before .before .before .before .before .before .before .before) .args in let s = a .s .now in
-    let e = (c .before .before .before .before .before .before .number) .ensures .is in
-    let f : rowOn (a .base) (a .j) s .flag ≡ 0 → ⊥ = λ z. (c .before .before .before .before .before .before .before .if1) .left (sym (row-flag (a .base + a .j * 48) s) ∙ z) in
-    let k : (c .before .before .before .before .before .before .number) .result - 1 ≡ pred (numberOn (a .base) (a .j) s) = omega arith in
+returns-2 c = let a = (c .before .before .before .before .before .before .before .before .before .before .before) .args in let s = a .s .now in
+    let e = (c .before .before .before .before .before .before .before .number) .ensures .is in
+    let f : rowOn (a .base) (a .j) s .flag ≡ 0 → ⊥ = λ z. (c .before .before .before .before .before .before .before .before .if1) .left (sym (row-flag (a .base + a .j * 48) s) ∙ z) in
+    let k : (c .before .before .before .before .before .before .before .number) .result .0 - 1 ≡ pred (numberOn (a .base) (a .j) s) = omega arith in
     let found = ap (λ (x : Found). among (a .run .lo) x) (sym ((c .before .i) .given .1) ∙ (c .before .before .before .find) .ensures) in
-    found ∙ parent-sought (a .base) (a .j) (a .run) s ((c .before .before .before .before .before .before .number) .result - 1) ((c .before .before .before .before .before .get-hash) .result) f k ((c .before .before .before .before .before .get-hash) .ensures .is ∙ sym (row-parent (a .base + a .j * 48) s))
+    found ∙ parent-sought (a .base) (a .j) (a .run) s ((c .before .before .before .before .before .before .before .number) .result .0 - 1) ((c .before .before .before .before .before .get-hash) .result) f k ((c .before .before .before .before .before .get-hash) .ensures .is ∙ sym (row-parent (a .base + a .j * 48) s))
 
 returns-3 : tie.Need-returns-3
-returns-3 c = let a = (c .before .before .before .before .before .before .before .before .before) .args in let s = a .s .now in
-    let e = (c .before .before .before .before .before .number) .ensures .is in
-    let f : rowOn (a .base) (a .j) s .flag ≡ 0 → ⊥ = λ z. (c .before .before .before .before .before .before .if1) .left (sym (row-flag (a .base + a .j * 48) s) ∙ z) in
-    let k : (c .before .before .before .before .before .number) .result - 1 ≡ pred (numberOn (a .base) (a .j) s) = omega arith in
+returns-3 c = let a = (c .before .before .before .before .before .before .before .before .before .before) .args in let s = a .s .now in
+    let e = (c .before .before .before .before .before .before .number) .ensures .is in
+    let f : rowOn (a .base) (a .j) s .flag ≡ 0 → ⊥ = λ z. (c .before .before .before .before .before .before .before .if1) .left (sym (row-flag (a .base + a .j * 48) s) ∙ z) in
+    let k : (c .before .before .before .before .before .before .number) .result .0 - 1 ≡ pred (numberOn (a .base) (a .j) s) = omega arith in
     let found = ap (λ (x : Found). among (a .run .lo) x) (sym ((c .enum-told) .given .1) ∙ (c .before .before .find) .ensures) in
-    found ∙ parent-sought (a .base) (a .j) (a .run) s ((c .before .before .before .before .before .number) .result - 1) ((c .before .before .before .before .get-hash) .result) f k ((c .before .before .before .before .get-hash) .ensures .is ∙ sym (row-parent (a .base + a .j * 48) s))
+    found ∙ parent-sought (a .base) (a .j) (a .run) s ((c .before .before .before .before .before .before .number) .result .0 - 1) ((c .before .before .before .before .get-hash) .result) f k ((c .before .before .before .before .get-hash) .ensures .is ∙ sym (row-parent (a .base + a .j * 48) s))
 
 pub parent-of-spec : {M : Type 1} → statement M
 parent-of-spec =
@@ -90,7 +90,7 @@ parent-of-spec =
     shared-slice-read-if1
     returns
     number-requires
-    sub-below
+    sub-t17
     add-get-hash
     get-hash-requires
     mul-find

@@ -32,14 +32,14 @@ get4-requires-2 : tie.Need-get4-requires-2
 get4-requires-2 c κs = search needs
 
 returns-2 : tie.Need-returns-2
-returns-2 c = let a = (c .before .before .before .before .before) .args in let s = a .s .now in let q = a .base + a .j * 48 in
-    let x = (c .before .before .get4) .ensures .is in let y = (c .before .get42) .ensures .is in let t = (c .if2) .taken in
-    sym (order-next (a .base) (a .j) (q - 48) s (rowAt q s .rev) ((c .before .before .before .if1) .left) refl ∙ ap (λ (o : Order). not (isLess o)) (rows-less (q - 48) q s (omega arith)))
+returns-2 c = let a = (c .before .before .before .before .before .before .before) .args in let s = a .s .now in let q = a .base + a .j * 48 in
+    let x = (c .before .before .before .before .get4) .ensures .is in let y = (c .before .before .before .get42) .ensures .is in let t = (c .if2) .taken in
+    sym (order-next (a .base) (a .j) (q - 48) s (rowAt q s .rev) ((c .before .before .before .before .before .if1) .left) refl ∙ ap (λ (o : Order). not (isLess o)) (rows-less (q - 48) q s (omega arith)))
 
 returns-3 : tie.Need-returns-3
-returns-3 c = let a = (c .before .before .before .before .before .before) .args in let s = a .s .now in let q = a .base + a .j * 48 in
-    let x = (c .before .before .before .get4) .ensures .is in let y = (c .before .before .get42) .ensures .is in let t = (c .if3) .taken in
-    sym (order-next (a .base) (a .j) (q - 48) s (rowAt q s .rev) ((c .before .before .before .before .if1) .left) refl ∙ ap (λ (o : Order). not (isLess o)) (rows-greater (q - 48) q s (omega arith)))
+returns-3 c = let a = (c .before .before .before .before .before .before .before .before .before .before) .args in let s = a .s .now in let q = a .base + a .j * 48 in
+    let x = (c .before .before .before .before .before .before .before .get4) .ensures .is in let y = (c .before .before .before .before .before .before .get42) .ensures .is in let t = (c .if3) .taken in
+    sym (order-next (a .base) (a .j) (q - 48) s (rowAt q s .rev) ((c .before .before .before .before .before .before .before .before .if1) .left) refl ∙ ap (λ (o : Order). not (isLess o)) (rows-greater (q - 48) q s (omega arith)))
 
 add-get-hash : tie.Need-add-get-hash
 add-get-hash c = search needs
@@ -63,22 +63,22 @@ enum-told-3 : tie.Need-enum-told-3
 enum-told-3 c = search needs
 
 returns-4 : tie.Need-returns-4
-returns-4 c = let a = (c .before .before .before .before .before .before .before .before .before .before) .args in let s = a .s .now in let q = a .base + a .j * 48 in
-    let x = (c .before .before .before .before .before .before .before .get4) .ensures .is in let y = (c .before .before .before .before .before .before .get42) .ensures .is in let t = (c .before .before .before .before .before .if2) .left in let u = (c .before .before .before .before .if3) .left in
+returns-4 c = let a = (c .before .before .before .before .before .before .before .before .before .before .before .before .before .before) .args in let s = a .s .now in let q = a .base + a .j * 48 in
+    let x = (c .before .before .before .before .before .before .before .before .before .before .before .get4) .ensures .is in let y = (c .before .before .before .before .before .before .before .before .before .before .get42) .ensures .is in let t = (c .before .before .before .before .before .before .before .if2) .left in let u = (c .before .before .before .before .if3) .left in
     let o = rows-level (q - 48) q s (omega arith) ∙ (ap (λ (h : List ℕ). orderBytes h (part (q + 4) 16 s)) (sym ((c .before .before .before .get-hash) .ensures .is)) ∙ (sym ((c .before .before .order-hash-at) .ensures) ∙ (c .enum-told) .given .1)) in
-    sym (order-next (a .base) (a .j) (q - 48) s (rowAt q s .rev) ((c .before .before .before .before .before .before .before .before .if1) .left) refl ∙ ap (λ (o : Order). not (isLess o)) o)
+    sym (order-next (a .base) (a .j) (q - 48) s (rowAt q s .rev) ((c .before .before .before .before .before .before .before .before .before .before .before .before .if1) .left) refl ∙ ap (λ (o : Order). not (isLess o)) o)
 
 returns-5 : tie.Need-returns-5
-returns-5 c = let a = (c .before .before .before .before .before .before .before .before .before .before) .args in let s = a .s .now in let q = a .base + a .j * 48 in
-    let x = (c .before .before .before .before .before .before .before .get4) .ensures .is in let y = (c .before .before .before .before .before .before .get42) .ensures .is in let t = (c .before .before .before .before .before .if2) .left in let u = (c .before .before .before .before .if3) .left in
+returns-5 c = let a = (c .before .before .before .before .before .before .before .before .before .before .before .before .before .before) .args in let s = a .s .now in let q = a .base + a .j * 48 in
+    let x = (c .before .before .before .before .before .before .before .before .before .before .before .get4) .ensures .is in let y = (c .before .before .before .before .before .before .before .before .before .before .get42) .ensures .is in let t = (c .before .before .before .before .before .before .before .if2) .left in let u = (c .before .before .before .before .if3) .left in
     let o = rows-level (q - 48) q s (omega arith) ∙ (ap (λ (h : List ℕ). orderBytes h (part (q + 4) 16 s)) (sym ((c .before .before .before .get-hash) .ensures .is)) ∙ (sym ((c .before .before .order-hash-at) .ensures) ∙ (c .enum-told2) .given .1)) in
-    sym (order-next (a .base) (a .j) (q - 48) s (rowAt q s .rev) ((c .before .before .before .before .before .before .before .before .if1) .left) refl ∙ ap (λ (o : Order). not (isLess o)) o)
+    sym (order-next (a .base) (a .j) (q - 48) s (rowAt q s .rev) ((c .before .before .before .before .before .before .before .before .before .before .before .before .if1) .left) refl ∙ ap (λ (o : Order). not (isLess o)) o)
 
 returns-6 : tie.Need-returns-6
-returns-6 c = let a = (c .before .before .before .before .before .before .before .before .before .before) .args in let s = a .s .now in let q = a .base + a .j * 48 in
-    let x = (c .before .before .before .before .before .before .before .get4) .ensures .is in let y = (c .before .before .before .before .before .before .get42) .ensures .is in let t = (c .before .before .before .before .before .if2) .left in let u = (c .before .before .before .before .if3) .left in
+returns-6 c = let a = (c .before .before .before .before .before .before .before .before .before .before .before .before .before .before) .args in let s = a .s .now in let q = a .base + a .j * 48 in
+    let x = (c .before .before .before .before .before .before .before .before .before .before .before .get4) .ensures .is in let y = (c .before .before .before .before .before .before .before .before .before .before .get42) .ensures .is in let t = (c .before .before .before .before .before .before .before .if2) .left in let u = (c .before .before .before .before .if3) .left in
     let o = rows-level (q - 48) q s (omega arith) ∙ (ap (λ (h : List ℕ). orderBytes h (part (q + 4) 16 s)) (sym ((c .before .before .before .get-hash) .ensures .is)) ∙ (sym ((c .before .before .order-hash-at) .ensures) ∙ (c .enum-told3) .given .1)) in
-    sym (order-next (a .base) (a .j) (q - 48) s (rowAt q s .rev) ((c .before .before .before .before .before .before .before .before .if1) .left) refl ∙ ap (λ (o : Order). not (isLess o)) o)
+    sym (order-next (a .base) (a .j) (q - 48) s (rowAt q s .rev) ((c .before .before .before .before .before .before .before .before .before .before .before .before .if1) .left) refl ∙ ap (λ (o : Order). not (isLess o)) o)
 
 pub order-bad-spec : {M : Type 1} → statement M
 order-bad-spec =

@@ -12,7 +12,7 @@ use Rattle.faults.proofs.rows.parent_bad.Statement.{statement}
 use Rattle.faults.proofs.rows.parent_bad.Tie as tie
 
 returns : tie.Need-returns
-returns c = let a = (c .before .before) .args in parent-known (a .flag) (a .number) (not (allZero (rowAt (a .at) (a .s .now) .parent))) ((c .if1) .taken)
+returns c = let a = (c .before .before .before) .args in parent-known (a .flag) (a .number .0) (not (allZero (rowAt (a .at) (a .s .now) .parent))) ((c .before .if1) .taken)
 
 add-a : tie.Need-add-a
 add-a c = search needs
@@ -37,10 +37,10 @@ returns-2 c = let a = (c .before .before .before .before .before) .args in
     let p = rowAt (a .at) (a .s .now) .parent in
     let z : a .at + 40 - (a .at + 24) ≡ 16 = omega arith in
     let e = (c .all-zero) .ensures ∙ ap allZero (part-slice (a .at + 24) (a .at + 40) 16 (a .s .now) z ∙ sym (row-parent (a .at) (a .s .now))) in
-    ap not e ∙ parent-unknown (a .flag) (a .number) (not (allZero p)) ((c .before .before .if2) .taken)
+    ap not e ∙ parent-unknown (a .flag) (a .number .0) (not (allZero p)) ((c .before .before .if2) .taken)
 
 returns-3 : tie.Need-returns-3
-returns-3 c = let a = (c .before .before .before) .args in parent-neither (a .flag) (a .number) (not (allZero (rowAt (a .at) (a .s .now) .parent))) ((c .before .if1) .left) ((c .if2) .left)
+returns-3 c = let a = (c .before .before .before) .args in parent-neither (a .flag) (a .number .0) (not (allZero (rowAt (a .at) (a .s .now) .parent))) ((c .before .if1) .left) ((c .if2) .left)
 
 pub parent-bad-spec : {M : Type 1} → statement M
 parent-bad-spec =

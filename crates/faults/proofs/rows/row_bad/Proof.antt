@@ -47,26 +47,26 @@ returns-3 c = let a = (c .before .before .before .before .before .before .before
     holds (badRow w) (λ e. (c .if3) .taken ((c .before .get2) .ensures .is ∙ (sym (row-zero (a .at) (a .s .now)) ∙ row-rules w e .zero)))
 
 returns-4 : tie.Need-returns-4
-returns-4 c = let a = (c .before .before .before .before .before .before .before .before .before) .args in let w = rowAt (a .at) (a .s .now) in let k = row-number (a .at) (a .s .now) in let t = (c .if4) .taken in let g = (c .before .before .before .before .before .before .before .get4) .ensures .is in
+returns-4 c = let a = (c .before .before .before .before .before .before .before .before .before .before) .args in let w = rowAt (a .at) (a .s .now) in let k = row-number (a .at) (a .s .now) in let t = (c .if4) .taken in let g = (c .before .before .before .before .before .before .before .before .get4) .ensures .is in
     holds (badRow w) (λ e. let h = row-rules w e .number in omega arith)
 
 parent-bad-requires : tie.Need-parent-bad-requires
 parent-bad-requires c κs = search needs
 
 returns-5 : tie.Need-returns-5
-returns-5 c = let a = (c .before .before .before .before .before .before .before .before .before .before .before) .args in let s = a .s .now in let w = rowAt (a .at) s in
-    row-parented w (rw (row-flag (a .at) s, row-number (a .at) s, sym ((c .before .before .before .before .before .before .before .before .before .get4) .ensures .is)) (sym ((c .before .parent-bad) .ensures) ∙ (c .if5) .taken))
+returns-5 c = let a = (c .before .before .before .before .before .before .before .before .before .before .before .before) .args in let s = a .s .now in let w = rowAt (a .at) s in
+    row-parented w (rw (row-flag (a .at) s, row-number (a .at) s, sym ((c .before .before .before .before .before .before .before .before .before .before .get4) .ensures .is)) (sym ((c .before .parent-bad) .ensures) ∙ (c .if5) .taken))
 
 label-bad-requires : tie.Need-label-bad-requires
 label-bad-requires c κs = search needs
 
 returns-6 : tie.Need-returns-6
-returns-6 c = let a = (c .before .before .before .before .before .before .before .before .before .before .before .before) .args in let s = a .s .now in let w = rowAt (a .at) s in
+returns-6 c = let a = (c .before .before .before .before .before .before .before .before .before .before .before .before .before) .args in let s = a .s .now in let w = rowAt (a .at) s in
     let k = row-kind (a .at) s in
     let f = row-flag (a .at) s in
     let n = row-number (a .at) s in
-    let g = (c .before .before .before .before .before .before .before .before .before .before .get4) .ensures .is in
-    let z : w .zero ≡ 0 = row-zero (a .at) s ∙ (sym ((c .before .before .before .before .before .get2) .ensures .is) ∙ (c .before .before .before .before .if3) .left) in
+    let g = (c .before .before .before .before .before .before .before .before .before .before .before .get4) .ensures .is in
+    let z : w .zero ≡ 0 = row-zero (a .at) s ∙ (sym ((c .before .before .before .before .before .before .get2) .ensures .is) ∙ (c .before .before .before .before .before .if3) .left) in
     let p : ((eqb (w .flag) 1 && eqb (w .rev .number .0) 1) || (eqb (w .flag) 0 && not (allZero (w .parent)))) ≡ false =
     rw (f, n, sym g) (sym ((c .before .before .parent-bad) .ensures) ∙ (c .before .if5) .left) in
     (c .label-bad) .ensures

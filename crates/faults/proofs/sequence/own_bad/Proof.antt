@@ -21,10 +21,10 @@ own-requires : tie.Need-own-requires Inv-loop μ-loop
 own-requires c κs = search needs
 
 returns : tie.Need-returns Inv-loop μ-loop
-returns c = let a = (c .before .before .before) .args in sym (own-zero (a .i) (a .s .now) (sym ((c .before .own) .ensures .is) ∙ (c .if1) .taken))
+returns c = let a = (c .before .before .before .before) .args in sym (own-zero (a .i) (a .s .now) (sym ((c .before .before .own) .ensures .is) ∙ (c .if1) .taken))
 
 loop-holds : tie.Need-loop-holds Inv-loop μ-loop
-loop-holds c = let a = (c .before .before .before) .args in (omega arith, own-none (a .i) (a .s .now) (λ e. (c .if1) .left ((c .before .own) .ensures .is ∙ e)))
+loop-holds c = let a = (c .before .before .before .before) .args in (omega arith, own-none (a .i) (a .s .now) (λ e. (c .if1) .left ((c .before .before .own) .ensures .is ∙ e)))
 
 sub-j : tie.Need-sub-j Inv-loop μ-loop
 sub-j c = search needs
@@ -33,18 +33,18 @@ own-requires-2 : tie.Need-own-requires-2 Inv-loop μ-loop
 own-requires-2 c κs = search needs
 
 returns-2 : tie.Need-returns-2 Inv-loop μ-loop
-returns-2 c = let a = (c .before .before .before .before .before .before .before) .args in let l = (c .before .before .before .loop) in
-    sym (l .inv .1 ∙ own-found (seqAt (a .i) (a .s .now)) (l .j) (a .s .now) (omega arith) (sym ((c .before .before .before .before .before .own) .ensures .is) ∙ ((c .if2) .taken ∙ (c .before .own2) .ensures .is)))
+returns-2 c = let a = (c .before .before .before .before .before .before .before .before .before .before) .args in let l = (c .before .before .before .before .before .loop) in
+    sym (l .inv .1 ∙ own-found (seqAt (a .i) (a .s .now)) (l .j) (a .s .now) (omega arith) (sym ((c .before .before .before .before .before .before .before .before .own) .ensures .is) ∙ ((c .if2) .taken ∙ (c .before .before .before .own2) .ensures .is)))
 
 loop-less : tie.Need-loop-less Inv-loop μ-loop
 loop-less c = search needs
 
 loop-again : tie.Need-loop-again Inv-loop μ-loop
-loop-again c = let a = (c .before .before .before .before .before .before .before) .args in let l = (c .before .before .before .loop) in
-    (omega arith, l .inv .1 ∙ own-next (seqAt (a .i) (a .s .now)) (l .j) (a .s .now) (omega arith) (λ e. (c .if2) .left ((c .before .before .before .before .before .own) .ensures .is ∙ (e ∙ sym ((c .before .own2) .ensures .is)))))
+loop-again c = let a = (c .before .before .before .before .before .before .before .before .before .before) .args in let l = (c .before .before .before .before .before .loop) in
+    (omega arith, l .inv .1 ∙ own-next (seqAt (a .i) (a .s .now)) (l .j) (a .s .now) (omega arith) (λ e. (c .if2) .left ((c .before .before .before .before .before .before .before .before .own) .ensures .is ∙ (e ∙ sym ((c .before .before .before .own2) .ensures .is)))))
 
 returns-3 : tie.Need-returns-3 Inv-loop μ-loop
-returns-3 c = let a = (c .before .before .before .before .before) .args in let l = (c .before .loop) in sym (l .inv .1 ∙ own-end (seqAt (a .i) (a .s .now)) (l .j) (a .s .now) (omega arith))
+returns-3 c = let a = (c .before .before .before .before .before .before) .args in let l = (c .before .loop) in sym (l .inv .1 ∙ own-end (seqAt (a .i) (a .s .now)) (l .j) (a .s .now) (omega arith))
 
 pub own-bad-spec : {M : Type 1} → statement M
 own-bad-spec =

@@ -12,7 +12,7 @@ use Rattle.faults.proofs.sequence.sequence_fault.Statement.{statement}
 use Rattle.faults.proofs.sequence.sequence_fault.Tie as tie
 
 abbrev Inv-loop : tie.InvT-loop
-Inv-loop s d most₀ i₀ most i = (i ≤ d) × (badSequence s ≡ sequenceFrom s d (headOf s .seq) i most)
+Inv-loop s d most₀ i₀ most i = (i ≤ d) × (badSequence s ≡ sequenceFrom s d (headOf s .seq) i (most .0))
 
 abbrev μ-loop : tie.MeasureT-loop
 μ-loop s d most₀ i₀ most i = d - i
@@ -29,7 +29,7 @@ own-bad-requires c κs = search needs
 
 returns : tie.Need-returns Inv-loop μ-loop
 returns c = let s = (c .before .before .before .before .before .before) .args .s .now in let l = (c .before .before .before .loop) in
-    sym (l .inv .1 ∙ sequence-bad s ((c .before .before .before .before .documents) .result) (headOf s .seq) (l .i) (l .most) (omega arith) (sym ((c .before .own-bad) .ensures) ∙ (c .if1) .taken))
+    sym (l .inv .1 ∙ sequence-bad s ((c .before .before .before .before .documents) .result) (headOf s .seq) (l .i) (l .most .0) (omega arith) (sym ((c .before .own-bad) .ensures) ∙ (c .if1) .taken))
 
 own-requires : tie.Need-own-requires Inv-loop μ-loop
 own-requires c κs = search needs
@@ -46,21 +46,21 @@ loop-less c = search needs
 loop-again : tie.Need-loop-again Inv-loop μ-loop
 loop-again c = let s = (c .before .before .before .before .before .before .before .before) .args .s .now in let l = (c .before .before .before .before .before .loop) in
     let d = (c .before .before .before .before .before .before .documents) .result in
-    let next = sequence-next s d (headOf s .seq) (l .i) (l .most) (omega arith) (sym ((c .before .before .before .own-bad) .ensures) ∙ (c .before .before .if1) .left) in
-    (omega arith, l .inv .1 ∙ (next ∙ ap (λ (k : ℕ). sequenceFrom s d (headOf s .seq) (l .i + 1) k) (ap (λ (k : ℕ). max (l .most) k) (sym ((c .before .own) .ensures .is)) ∙ sym ((c .larger) .ensures))))
+    let next = sequence-next s d (headOf s .seq) (l .i) (l .most .0) (omega arith) (sym ((c .before .before .before .own-bad) .ensures) ∙ (c .before .before .if1) .left) in
+    (omega arith, l .inv .1 ∙ (next ∙ ap (λ (k : ℕ). sequenceFrom s d (headOf s .seq) (l .i + 1) k) (ap (λ (k : ℕ). max (l .most .0) k) (sym ((c .before .own) .ensures .is)) ∙ sym ((c .larger) .ensures))))
 
 update-sequence-requires : tie.Need-update-sequence-requires Inv-loop μ-loop
 update-sequence-requires c κs = search needs
 
 returns-2 : tie.Need-returns-2 Inv-loop μ-loop
-returns-2 c = let s = (c .before .before .before .before .before .before .before) .args .s .now in let l = (c .before .before .before .before .loop) in
-    sym (l .inv .1 ∙ (sequence-end s ((c .before .before .before .before .before .documents) .result) (headOf s .seq) (l .i) (l .most) (omega arith)
-    ∙ ap (λ b. pick b none (some ((c .before .before .before .before .before .documents) .result))) (eq-eqb (headOf s .seq) (l .most) (sym ((c .if2) .taken ∙ (c .before .before .update-sequence) .ensures)))))
+returns-2 c = let s = (c .before .before .before .before .before .before .before .before) .args .s .now in let l = (c .before .before .before .before .before .loop) in
+    sym (l .inv .1 ∙ (sequence-end s ((c .before .before .before .before .before .before .documents) .result) (headOf s .seq) (l .i) (l .most .0) (omega arith)
+    ∙ ap (λ b. pick b none (some ((c .before .before .before .before .before .before .documents) .result))) (eq-eqb (headOf s .seq) (l .most .0) (sym ((c .if2) .taken ∙ (c .before .before .before .update-sequence) .ensures)))))
 
 returns-3 : tie.Need-returns-3 Inv-loop μ-loop
-returns-3 c = let s = (c .before .before .before .before .before .before .before) .args .s .now in let l = (c .before .before .before .before .loop) in
-    sym (l .inv .1 ∙ (sequence-end s ((c .before .before .before .before .before .documents) .result) (headOf s .seq) (l .i) (l .most) (omega arith)
-    ∙ ap (λ b. pick b none (some ((c .before .before .before .before .before .documents) .result))) (ne-eqb (headOf s .seq) (l .most) (λ e. (c .if2) .left (sym ((c .before .before .update-sequence) .ensures ∙ e))))))
+returns-3 c = let s = (c .before .before .before .before .before .before .before .before) .args .s .now in let l = (c .before .before .before .before .before .loop) in
+    sym (l .inv .1 ∙ (sequence-end s ((c .before .before .before .before .before .before .documents) .result) (headOf s .seq) (l .i) (l .most .0) (omega arith)
+    ∙ ap (λ b. pick b none (some ((c .before .before .before .before .before .before .documents) .result))) (ne-eqb (headOf s .seq) (l .most .0) (λ e. (c .if2) .left (sym ((c .before .before .before .update-sequence) .ensures ∙ e))))))
 
 pub sequence-fault-spec : {M : Type 1} → statement M
 sequence-fault-spec =
