@@ -89,7 +89,7 @@ stored-entries (d ∷ ds) =
     let z : 0 ≡ 0 + 0 * length (d .1 .tree) = omega arith in
     ap (λ (l : List ℕ). entryBytes 0 d ++ l) (stored-entries ds ∙ ap (λ (k : ℕ). entriesWith 0 k ds) z)
 
-part-in : (k n : ℕ) (a b : List ℕ) → k + n ≤ length a → part k n (a ++ b) ≡ part k n a
+pub part-in : (k n : ℕ) (a b : List ℕ) → k + n ≤ length a → part k n (a ++ b) ≡ part k n a
 unfolding part
 part-in k n a b h =
     ap (take n) (drop-append-le k a b (omega arith)) ∙ take-append-le n (drop k a) b (simp length-drop (omega arith))

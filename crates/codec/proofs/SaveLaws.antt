@@ -1,5 +1,5 @@
 -- A replica in a buffer, written as its image. Assumes nothing.
-use mathlib.Core.Path.{_≡_, refl, sym, ap, _∙_}
+use mathlib.Core.Path.{_≡_, refl, sym, ap, ap₂, _∙_}
 use mathlib.Core.List.{List, _++_, append-assoc}
 use Prim.Native.Nat.{ℕ, _+_, _-_, _*_, _≤_, _<_}
 use native.Mathlib.Nat.{zero-add}
@@ -11,20 +11,19 @@ use Rattle.rules.specs.declared.Answered.the-variants.{Count, Refused}
 use Rattle.rules.specs.declared.Refusal.the-variants.{ShortBuffer}
 use Rattle.rules.specs.Bytes.{be, part, join}
 use Rattle.rules.specs.Choice.{firstThat}
-use Rattle.rules.specs.Image.{headBytes, contentsBytes, bodyBytes, image, save, totalLength}
+use Rattle.rules.specs.Image.{headBytes, contentsBytes, bodyBytes, image, save, headOf, totalLength}
 use Rattle.rules.specs.Map.{Map}
 use Rattle.rules.specs.Outcome.{Does}
 use Rattle.rules.specs.Read.{front, shortBuffer, reads}
 use Rattle.rules.specs.Replica.{Id, Document, Replica, revisionsHeld}
-use Rattle.rules.specs.Room.{documentsMost, revisionsMost}
 use Rattle.rules.proofs.ByteLaws.{length-be, length-part}
 use Rattle.images.proofs.Theorems.{image-length}
 use Rattle.octets.specs.Splice.{splice}
 use Rattle.octets.proofs.SpliceLaws.{five}
-use Rattle.store.specs.Storage.{contentsRoom, rowsRoom, storeSize, filled, storedHead, storedEntries, storedRows, stored, replicaOf, Storable, IsStored}
+use Rattle.store.specs.Storage.{contentsRoom, rowsRoom, rowsPlace, filled, storedHead, storedEntries, storedRows, stored, replicaOf, Storable, IsStored}
 use Rattle.store.proofs.FitLaws.{stored-laid}
-use Rattle.store.proofs.StoredLaws.{length-head, size-rows, size-laid, past-contents}
-use Rattle.codec.specs.Codec.{moved, CanWrite}
+use Rattle.store.proofs.StoredLaws.{length-head, size-rows, size-laid, past-contents, documents-stored, revisions-stored}
+use Rattle.codec.specs.Codec.{moved, imageFrom, CanWrite}
 use Rattle.codec.proofs.MoveLaws.{entriesWith, length-moved, contents-entries, stored-entries, moved-entries, body-rows}
 
 -- ---- the parts of a buffer
@@ -53,7 +52,7 @@ module _ (r : Replica) (h : Storable r) where
       ∙ (moved-entries 48 place 0 0 ds head (Z ++ R) 16 (length-head count held (r .seq .0)) (h .documents) (h .revisions-most)
       ∙ sym (contents-entries place ds))
 
-  rows-saved : (k : ℕ) → k ≡ 48 * held → take k (drop 1424 (stored r)) ≡ bodyBytes ds
+  rows-saved : (k : ℕ) → k ≡ 48 * held → take k (drop rowsPlace (stored r)) ≡ bodyBytes ds
   unfolding filled
   rows-saved k e =
       let w : length (join (storedRows ds)) ≡ k = size-rows r h ∙ omega arith in
@@ -66,53 +65,60 @@ module _ (r : Replica) (h : Storable r) where
 
 -- ---- how the code writes it
 
--- what is known of the lengths
-pub record Fitting (b out : List ℕ) (d r : ℕ) : Type 0 where
-  pub size : length b ≡ storeSize
-  pub documents : d ≤ documentsMost
-  pub revisions : r ≤ revisionsMost
-  pub room : totalLength d r ≤ length out
-
-pub fitting : (b out : List ℕ) (d r : ℕ) → CanWrite b out d r → Fitting b out d r
-fitting b out d r w = record {
-  size = size-laid b (stored-laid b (w .replica));
-  documents = omega (arith, w .documents, w .replica .replica .documents-most);
-  revisions = omega (arith, w .revisions, w .replica .replica .revisions-most);
-  room = w .room;
-}
-
 -- o1 to o5 are what the writes leave, one after the other
-pub image-written : (b o o1 o2 o3 o4 o5 : List ℕ) (d r rows e t : ℕ) → CanWrite b o d r → rows ≡ 16 + 44 * d → e ≡ 1424 + 48 * r → t ≡ rows + 48 * r
+pub parts-written : (b o o1 o2 o3 o4 o5 : List ℕ) (d r rows e t : ℕ) → CanWrite b o d r → rows ≡ 16 + 44 * d → e ≡ rowsPlace + 48 * r → t ≡ rows + 48 * r
     → o1 ≡ splice o 0 (be 2 1) → o2 ≡ splice o1 2 (take 10 (drop 2 b)) → o3 ≡ splice o2 12 (be 4 t)
-    → o4 ≡ splice o3 16 (moved 48 rows d 16 b) → o5 ≡ splice o4 rows (take (e - 1424) (drop 1424 b))
-    → o5 ≡ splice o 0 (image (replicaOf b))
-unfolding part
-image-written b o o1 o2 o3 o4 o5 d r rows e t w p q u e1 e2 e3 e4 e5 =
-    let f = fitting b o d r w in
-    let l = stored-laid b (w .replica) in
-    let R : Replica = replicaOf b in
-    let D : ℕ = length (R .documents) in
-    let N : ℕ = revisionsHeld (R .documents) in
-    let a : rows ≡ 16 + 44 * D = p ∙ ap (λ (k : ℕ). 16 + 44 * k) (w .documents) in
-    let z : t ≡ totalLength D N = omega (arith, w .revisions) in
+    → o4 ≡ splice o3 16 (moved 48 rows d 16 b) → o5 ≡ splice o4 rows (take (e - rowsPlace) (drop rowsPlace b))
+    → o5 ≡ splice o 0 (imageFrom d r b)
+unfolding imageFrom part
+parts-written b o o1 o2 o3 o4 o5 d r rows e t w p q u e1 e2 e3 e4 e5 =
     let X : List ℕ = part 2 10 b in
     let M : List ℕ = moved 48 rows d 16 b in
-    let B : List ℕ = take (e - 1424) (drop 1424 b) in
-    let x : X ≡ part 2 10 (stored R) = ap (part 2 10) (l .same) in
-    let m : M ≡ contentsBytes (16 + 44 * D) (R .documents) =
-    ap (λ (k : ℕ). moved 48 k d 16 b) a
-    ∙ (ap (λ (k : ℕ). moved 48 (16 + 44 * D) k 16 b) (w .documents)
-    ∙ (ap (moved 48 (16 + 44 * D) D 16) (l .same) ∙ entries-saved R (l .fits) (16 + 44 * D))) in
-    let y : B ≡ bodyBytes (R .documents) =
-    ap (λ (s : List ℕ). take (e - 1424) (drop 1424 s)) (l .same) ∙ rows-saved R (l .fits) (e - 1424) (omega (arith, w .revisions)) in
+    let B : List ℕ = take (e - rowsPlace) (drop rowsPlace b) in
     let lx : length X ≡ 10 = length-part 2 10 b (omega arith) in
     let lm : length M ≡ d * 44 = length-moved 48 rows d 16 b (omega arith) in
-    let lb : length B ≡ 48 * r = length-part 1424 (e - 1424) b (omega arith) ∙ omega arith in
-    let whole : be 2 1 ++ (X ++ (be 4 t ++ (M ++ B))) ≡ image R = cc (image-saved R (l .fits)) in
+    let lb : length B ≡ 48 * r = length-part rowsPlace (e - rowsPlace) b (omega arith) ∙ omega arith in
+    let n : e - rowsPlace ≡ 48 * r = omega arith in
+    let z : t ≡ totalLength d r = omega arith in
+    let whole : be 2 1 ++ (X ++ (be 4 t ++ (M ++ B))) ≡ imageFrom d r b
+    = λ i. be 2 1 ++ (X ++ (be 4 (z i) ++ (moved 48 (p i) d 16 b ++ take (n i) (drop rowsPlace b)))) in
     let is : o5 ≡ splice (splice (splice (splice (splice o 0 (be 2 1)) 2 X) 12 (be 4 t)) 16 M) rows B = cc in
     is
     ∙ (five o (be 2 1) X (be 4 t) M B 0 2 12 16 rows (omega (arith, length-be 2 1)) (omega arith) (ap (λ (k : ℕ). 12 + k) (length-be 4 t)) (omega arith) (omega arith)
     ∙ ap (splice o 0) whole)
+
+-- of a replica it is its image
+pub image-from : (b : List ℕ) (d r : ℕ) → IsStored b → d ≡ length (replicaOf b .documents) → r ≡ revisionsHeld (replicaOf b .documents)
+    → imageFrom d r b ≡ image (replicaOf b)
+unfolding imageFrom part
+image-from b d r i p q =
+    let l = stored-laid b i in
+    let R : Replica = replicaOf b in
+    let D : ℕ = length (R .documents) in
+    let N : ℕ = revisionsHeld (R .documents) in
+    let same : imageFrom d r b ≡ imageFrom D N (stored R) = ap₂ (λ (x y : ℕ). imageFrom x y b) p q ∙ ap (imageFrom D N) (l .same) in
+    let m : moved 48 (16 + 44 * D) D 16 (stored R) ≡ contentsBytes (16 + 44 * D) (R .documents) = entries-saved R (l .fits) (16 + 44 * D) in
+    let y : take (48 * N) (drop rowsPlace (stored R)) ≡ bodyBytes (R .documents) = rows-saved R (l .fits) (48 * N) refl in
+    same
+    ∙ (ap₂ (λ (x z : List ℕ). be 2 1 ++ (part 2 10 (stored R) ++ (be 4 (totalLength D N) ++ (x ++ z)))) m y
+    ∙ image-saved R (l .fits))
+
+-- what its buffer says of the counts
+pub stored-counts : (b : List ℕ) → IsStored b → (headOf b .documents ≡ length (replicaOf b .documents)) × (headOf b .revisions ≡ revisionsHeld (replicaOf b .documents))
+stored-counts b i =
+    let l = stored-laid b i in (
+      ap (λ (s : List ℕ). headOf s .documents) (l .same) ∙ documents-stored (replicaOf b) (l .fits),
+      ap (λ (s : List ℕ). headOf s .revisions) (l .same) ∙ revisions-stored (replicaOf b) (l .fits),
+    )
+
+pub can-write : (b out : List ℕ) (d r : ℕ) → IsStored b → d ≡ length (replicaOf b .documents) → r ≡ revisionsHeld (replicaOf b .documents) → totalLength d r ≤ length out
+    → CanWrite b out d r
+can-write b out d r i p q h = record {
+  size = size-laid b (stored-laid b i);
+  documents = omega (arith, i .replica .documents-most);
+  revisions = omega (arith, i .replica .revisions-most);
+  room = h;
+}
 
 -- ---- the answer
 

@@ -22,7 +22,7 @@ use Rattle.octets.proofs.SpliceLaws.{splice-whole, splice-past, splice-in}
 use Rattle.store.specs.Storage.{contentsRoom, rowsRoom, rowsPlace, storeSize, filled, storedHead, storedEntries, storedRows, stored, replicaOf, Storable, IsStored}
 use Rattle.store.proofs.StoredLaws.{length-head, length-filled, size-entries, size-rows, stored-back}
 use Rattle.store.proofs.FitLaws.{replica-fits}
-use Rattle.codec.specs.Codec.{moved, Loads}
+use Rattle.codec.specs.Codec.{moved, laidOut, Loads}
 use Rattle.codec.proofs.MoveLaws.{contents-entries, stored-entries, moved-entries, body-rows}
 
 pub bytes-all : (s : List ℕ) → ((i : ℕ) → getD s i 0 < 256) → Bytes s
@@ -133,8 +133,8 @@ module _ (r : Replica) (i : IsReplica r) where
       ap (drop p) (image-parts ∙ sym (append-assoc head contents body)) ∙ (drop-at (head ++ contents) body p c ∙ body-rows ds)
 
   -- the image, taken apart and laid out
-  laid-out : splice (splice (splice (zeros storeSize) 2 (part 2 10 (image r))) 16 (moved 0 0 d 16 (image r))) rowsPlace (drop (16 + 44 * d) (image r)) ≡ stored r
-  unfolding stored
+  pub laid-out : laidOut d (image r) (drop (16 + 44 * d) (image r)) ≡ stored r
+  unfolding laidOut stored
   laid-out =
       let H : List ℕ = storedHead d n (r .seq .0) in
       let E : List ℕ = join (storedEntries ds) in
@@ -151,6 +151,21 @@ module _ (r : Replica) (i : IsReplica r) where
       over-last (H ++ filled contentsRoom E) R rowsPlace rowsRoom c ∙ append-assoc H (filled contentsRoom E) (filled rowsRoom R) in
       ap₂ (λ (x y : List ℕ). splice x rowsPlace y) (ap₂ (λ (x y : List ℕ). splice x 16 y) one entries-taken ∙ two) (rows-taken (16 + 44 * d) refl)
       ∙ three
+
+-- ---- as the code lays it out
+
+pub laid : (d : ℕ) (src rows b b₁ b₂ b₃ b₄ : List ℕ) → length b ≡ storeSize
+    → b₁ ≡ splice b 0 (zeros storeSize)
+    → b₂ ≡ splice b₁ 2 (part 2 10 src)
+    → b₃ ≡ splice b₂ 16 (moved 0 0 d 16 src)
+    → b₄ ≡ splice b₃ rowsPlace rows
+    → b₄ ≡ laidOut d src rows
+unfolding laidOut
+laid d src rows b b₁ b₂ b₃ b₄ z f₁ f₂ f₃ f₄ =
+    let w : b₁ ≡ zeros storeSize = f₁ ∙ splice-whole b (zeros storeSize) (length-replicate {A = ℕ} storeSize 0 ∙ sym z) in
+    let g₂ : b₂ ≡ splice (zeros storeSize) 2 (part 2 10 src) = f₂ ∙ ap (λ (x : List ℕ). splice x 2 (part 2 10 src)) w in
+    let g₃ : b₃ ≡ splice (splice (zeros storeSize) 2 (part 2 10 src)) 16 (moved 0 0 d 16 src) = f₃ ∙ ap (λ (x : List ℕ). splice x 16 (moved 0 0 d 16 src)) g₂ in
+    f₄ ∙ ap (λ (x : List ℕ). splice x rowsPlace rows) g₃
 
 -- ---- bytes that have no fault
 
@@ -180,23 +195,14 @@ module _ (s : List ℕ) (p : Bytes s) (e : firstThat (faults s) ≡ none) where
       let l = sym (ap length same) ∙ image-length held is in
       record { documents = omega arith; revisions = is .revisions-most; size = omega arith }
 
-  -- what the code leaves, step by step
-  pub taken : (c : ℕ) → c ≡ value (part 2 2 s) → (b b₁ b₂ b₃ b₄ : List ℕ) → length b ≡ storeSize
-      → b₁ ≡ splice b 0 (zeros storeSize)
-      → b₂ ≡ splice b₁ 2 (part 2 10 s)
-      → b₃ ≡ splice b₂ 16 (moved 0 0 c 16 s)
-      → b₄ ≡ splice b₃ rowsPlace (take (length s - (16 + 44 * c)) (drop (16 + 44 * c) s))
-      → b₄ ≡ stored held
-  taken c q b b₁ b₂ b₃ b₄ z f₁ f₂ f₃ f₄ =
-      let k : c ≡ length (held .documents) = q ∙ count in
-      let w : b₁ ≡ zeros storeSize = f₁ ∙ splice-whole b (zeros storeSize) (length-replicate {A = ℕ} storeSize 0 ∙ sym z) in
-      let g₂ : b₂ ≡ splice (zeros storeSize) 2 (part 2 10 (image held)) = f₂ ∙ ap₂ (λ (x y : List ℕ). splice x 2 (part 2 10 y)) w (sym same) in
-      let m : moved 0 0 c 16 s ≡ moved 0 0 (length (held .documents)) 16 (image held) = ap₂ (λ (x : ℕ) (y : List ℕ). moved 0 0 x 16 y) k (sym same) in
-      let t : take (length s - (16 + 44 * c)) (drop (16 + 44 * c) s) ≡ drop (16 + 44 * length (held .documents)) (image held) =
-      take-all (length s - (16 + 44 * c)) (drop (16 + 44 * c) s) (simp length-drop (omega arith)) ∙ ap₂ (λ (x : ℕ) (y : List ℕ). drop (16 + 44 * x) y) k (sym same) in
-      f₄
-      ∙ (ap₂ (λ (x y : List ℕ). splice x rowsPlace y) (f₃ ∙ ap₂ (λ (x y : List ℕ). splice x 16 y) g₂ m) t
-      ∙ laid-out held is)
+  pub relaid : (c : ℕ) → c ≡ value (part 2 2 s) → laidOut c s (drop (16 + 44 * c) s) ≡ stored held
+  relaid c q =
+      ap₂ (λ (x : ℕ) (y : List ℕ). laidOut x y (drop (16 + 44 * x) y)) (q ∙ count) (sym same) ∙ laid-out held is
+
+  -- as the code takes the rows
+  pub taken : (c : ℕ) → c ≡ value (part 2 2 s) → (b : List ℕ) → b ≡ laidOut c s (take (length s - (16 + 44 * c)) (drop (16 + 44 * c) s)) → b ≡ stored held
+  taken c q b e =
+      e ∙ (ap (laidOut c s) (take-all (length s - (16 + 44 * c)) (drop (16 + 44 * c) s) (simp length-drop (omega arith))) ∙ relaid c q)
 
   -- ---- the promise
 

@@ -1,19 +1,20 @@
--- What loading leaves in a buffer, and entries that get other places.
+-- What loading leaves in a buffer, what saving writes, and when bytes are a replica in a buffer.
 use mathlib.Core.Path.{_≡_}
+use mathlib.Core.Bool.{Bool, true}
 use mathlib.Core.List.{List, [], _++_}
 use mathlib.Core.Option.{Option, none, some}
 use Prim.Native.Nat.{ℕ, zero, suc, _+_, _*_, _≤_}
-use lib.ListN.{length}
+use lib.ListN.{length, replicate}
 use Rattle.rules.specs.declared.Fault.{Fault}
 use Rattle.rules.specs.declared.Loaded.{Loaded}
 use Rattle.rules.specs.declared.Loaded.the-variants.{Accepted, Refused}
 use Rattle.rules.specs.Bytes.{be, value, part}
 use Rattle.rules.specs.Choice.{firstThat}
-use Rattle.rules.specs.Image.{image, faults, replicaIn, load, headSize, entrySize, rowSize, totalLength}
+use Rattle.rules.specs.Image.{edition, image, headOf, faults, replicaIn, load, headSize, entrySize, rowSize, totalLength}
 use Rattle.rules.specs.Outcome.{Does}
-use Rattle.rules.specs.Replica.{Replica, revisionsHeld}
-use Rattle.rules.specs.Room.{documentsMost}
-use Rattle.store.specs.Storage.{storeSize, stored, replicaOf, IsStored}
+use Rattle.rules.specs.Room.{documentsMost, revisionsMost}
+use Rattle.octets.specs.Splice.{splice}
+use Rattle.store.specs.Storage.{rowsRoom, rowsPlace, storeSize, stored, replicaOf, IsStored}
 
 -- ---- entries
 
@@ -30,6 +31,20 @@ pub record CanMove (d first step : ℕ) (dst src : List ℕ) : Type 0 where
   pub there : headSize + entrySize * d ≤ length src
   pub low : first ≤ headSize + entrySize * documentsMost
   pub short : step ≤ rowSize
+
+-- ---- laying out
+
+-- a buffer with the head of src but for edition and total, its first d entries with place 0, and rows
+unfoldable pub laidOut : ℕ → List ℕ → List ℕ → List ℕ
+laidOut d src rows =
+    splice (splice (splice (replicate storeSize 0) 2 (part 2 10 src)) headSize (moved 0 0 d headSize src)) rowsPlace rows
+
+-- b is a buffer, and src and the rows have no more than it holds
+pub record CanLay (b src : List ℕ) (d : ℕ) (rows : List ℕ) : Type 0 where
+  pub size : length b ≡ storeSize
+  pub most : d ≤ documentsMost
+  pub there : headSize + entrySize * d ≤ length src
+  pub fit : length rows ≤ rowsRoom
 
 -- ---- loading
 
@@ -56,9 +71,32 @@ pub record Loads (before s : List ℕ) (answer : Loaded) (after : List ℕ) : Ty
 
 -- ---- saving
 
--- out has room for the image of the replica in b, which has d documents and r revisions
+-- the image of d documents and r revisions whose parts stand in a buffer
+unfoldable pub imageFrom : ℕ → ℕ → List ℕ → List ℕ
+imageFrom d r b =
+    be 2 edition
+    ++ (part 2 10 b
+    ++ (be 4 (totalLength d r)
+    ++ (moved rowSize (headSize + entrySize * d) d headSize b ++ part rowsPlace (rowSize * r) b)))
+
+-- b is a buffer, and out has room for the image of d documents and r revisions
 pub record CanWrite (b out : List ℕ) (d r : ℕ) : Type 0 where
-  pub replica : IsStored b
-  pub documents : d ≡ length (replicaOf b .documents)
-  pub revisions : r ≡ revisionsHeld (replicaOf b .documents)
+  pub size : length b ≡ storeSize
+  pub documents : d ≤ documentsMost
+  pub revisions : r ≤ revisionsMost
   pub room : totalLength d r ≤ length out
+
+-- ---- telling
+
+-- b has the size of a buffer, and counts d documents and r revisions, no more than there is room for
+pub record Counts (b : List ℕ) (d r : ℕ) : Type 0 where
+  pub size : length b ≡ storeSize
+  pub documents : d ≡ headOf b .documents
+  pub revisions : r ≡ headOf b .revisions
+  pub documents-most : d ≤ documentsMost
+  pub revisions-most : r ≤ revisionsMost
+
+-- yes exactly if it is so
+pub record Tells (so : Type 0) (answer : Bool) : Type 0 where
+  pub yes : answer ≡ true → so
+  pub always : so → answer ≡ true

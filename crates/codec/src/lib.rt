@@ -1,4 +1,5 @@
-// Codec: loading a stored image into a buffer, and saving the replica in a buffer as its image.
+// Codec: loading a stored image into a buffer, saving the replica in a buffer as its image, and telling
+// whether bytes are such a buffer.
 // Head, entries and rows are copied as bytes: only the places of the entries differ between an image
 // and a buffer. It uses the crates rules, octets, store and faults, and the laws of the crate images.
 use faults::Judged;
@@ -6,14 +7,18 @@ use faults::fault;
 use octets::number::get2;
 use octets::number::put2;
 use octets::number::put4;
+use octets::order::same_bytes;
 use octets::run::clear;
 use octets::run::copy_in;
 use rules::Answered;
 use rules::COUNT_IN;
+use rules::DOCUMENTS;
 use rules::DOCUMENTS_AT;
 use rules::ENTRY;
 use rules::HEAD;
 use rules::Loaded;
+use rules::REVISIONS;
+use rules::REVISIONS_AT;
 use rules::ROW;
 use rules::Refusal;
 use store::ROWS;
@@ -22,11 +27,11 @@ use store::read::documents_held;
 use store::read::revisions_held;
 ghost use mathlib.Core.Path.{_≡_};
 ghost use lib.ListN.{length};
-ghost use Rattle.rules.specs.Image.{image, save, replicaIn, headSize};
+ghost use Rattle.rules.specs.Image.{save, replicaIn, headSize};
 ghost use Rattle.rules.specs.Outcome.{Does};
 ghost use Rattle.octets.specs.Splice.{splice};
 ghost use Rattle.store.specs.Storage.{storeSize, stored, replicaOf, IsStored};
-ghost use Rattle.codec.specs.Codec.{moved, CanMove, CanTake, CanWrite, Loads};
+ghost use Rattle.codec.specs.Codec.{moved, CanMove, laidOut, CanLay, CanTake, imageFrom, CanWrite, Loads, Counts, Tells};
 
 // Where an image's head has its total length, and an entry the place of its first row. A buffer has
 // neither.
@@ -52,6 +57,17 @@ fn copy_entries(dst: &mut [u8], src: &[u8], d: usize, first: usize, step: usize)
     }
 }
 
+// Lays the head of src, its first d entries and the rows out in the buffer, with zeros in between.
+fn lay_out(b: &mut [u8], src: &[u8], d: usize, rows: &[u8])
+    requires { ⌜ CanLay (now b) (now src) d (now rows) ⌝ }
+    ensures { λ _. ⌜ now (b .exit) ≡ laidOut d (now (src .entry)) (now (rows .entry)) ⌝ }
+{
+    clear(b, 0, SIZE);
+    copy_in(b, DOCUMENTS_AT, &src[DOCUMENTS_AT..TOTAL_AT]);
+    copy_entries(b, src, d, 0, 0);
+    copy_in(b, ROWS, rows);
+}
+
 // Lays an image that has no fault out in the buffer.
 fn take_in(b: &mut [u8], image: &[u8])
     requires { ⌜ CanTake (now b) (now image) ⌝ }
@@ -59,10 +75,7 @@ fn take_in(b: &mut [u8], image: &[u8])
 {
     let d = get2(image, DOCUMENTS_AT);
     let rows = HEAD + ENTRY * d;
-    clear(b, 0, SIZE);
-    copy_in(b, DOCUMENTS_AT, &image[DOCUMENTS_AT..TOTAL_AT]);
-    copy_entries(b, image, d, 0, 0);
-    copy_in(b, ROWS, &image[rows..]);
+    lay_out(b, image, d, &image[rows..]);
 }
 
 // Makes the buffer the replica of an image, or leaves it as it was.
@@ -79,10 +92,10 @@ pub fn load(b: &mut [u8], image: &[u8]) -> Loaded
     }
 }
 
-// Writes the image of a replica with d documents and r revisions.
+// Writes the image of d documents and r revisions whose parts stand in b.
 fn write_image(b: &[u8], out: &mut [u8], d: usize, r: usize)
     requires { ⌜ CanWrite (now b) (now out) d r ⌝ }
-    ensures { λ _. ⌜ now (out .exit) ≡ splice (now (out .entry)) 0 (image (replicaOf (now (b .entry)))) ⌝ }
+    ensures { λ _. ⌜ now (out .exit) ≡ splice (now (out .entry)) 0 (imageFrom d r (now (b .entry))) ⌝ }
 {
     let rows = HEAD + ENTRY * d;
     let e = ROWS + ROW * r;
@@ -106,4 +119,42 @@ pub fn save(b: &[u8], out: &mut [u8]) -> Answered
     }
     write_image(b, out, d, r);
     Answered::Count(total)
+}
+
+// Whether a buffer with d documents and r revisions is a replica. One scratch serves twice: for what the
+// parts of the buffer are, laid out anew, and for their image.
+fn holds_replica(b: &[u8], d: usize, r: usize) -> bool
+    requires { ⌜ Counts (now b) d r ⌝ }
+    ensures { λ a. ⌜ Tells (IsStored (now (b .entry))) a ⌝ }
+{
+    let e = ROWS + ROW * r;
+    let size = HEAD + ENTRY * d + ROW * r;
+    let mut t = [0u8; SIZE];
+    lay_out(&mut t, b, d, &b[ROWS..e]);
+    if !same_bytes(b, &t) {
+        return false;
+    }
+    write_image(b, &mut t, d, r);
+    match fault(&t[..size]) {
+        Judged::Fine => true,
+        Judged::Bad(_, _) => false,
+    }
+}
+
+// Whether any bytes are a replica in a buffer.
+pub fn is_replica(b: &[u8]) -> bool
+    ensures { λ a. ⌜ Tells (IsStored (now (b .entry))) a ⌝ }
+{
+    if b.len() != SIZE {
+        return false;
+    }
+    let d = get2(b, DOCUMENTS_AT);
+    if DOCUMENTS < d {
+        return false;
+    }
+    let r = get2(b, REVISIONS_AT);
+    if REVISIONS < r {
+        return false;
+    }
+    holds_replica(b, d, r)
 }

@@ -21,7 +21,7 @@ use Rattle.rules.specs.declared.RevNumber.{RevNumber}
 use Rattle.rules.specs.declared.Written.{Written}
 use Rattle.rules.specs.Answer.{Numbered, refused, editedNumber, loadedNumber}
 use Rattle.rules.specs.Bytes.{part}
-use Rattle.rules.specs.Choice.{pick, firstThat}
+use Rattle.rules.specs.Choice.{firstThat}
 use Rattle.rules.specs.Image.{faults}
 use Rattle.rules.specs.Pull.{pull}
 use Rattle.rules.specs.Read.{front}
@@ -39,9 +39,9 @@ use Rattle.reads.proofs.AnswerLaws.{first-past, first-some}
 use Rattle.report.proofs.FaultLaws.{place-most}
 use Rattle.codec.specs.Codec.{loadBytes, Loads}
 use Rattle.pulls.specs.Pulls.{Pulled}
-use Rattle.refile.specs.Boundary.{result, SmallPlace, call, Keeps, House, firstHouse, badReplica, badKind, badLabel, badFlag, badHash, badNoParent, parentHouse, editHouse, shortAnswer, contentFrom, parentFrom, countBytes, loadCall, editCall, pullCall}
+use Rattle.refile.specs.Boundary.{result, SmallPlace, call, Keeps, House, firstHouse, lentHouse, badKind, badLabel, badFlag, badHash, badNoParent, parentHouse, editHouse, shortAnswer, contentFrom, parentFrom, countBytes, loadCall, editCall, pullCall}
 use Rattle.refile.proofs.AnswerLaws.{short-answer, room-answer}
-use Rattle.refile.proofs.CallLaws.{good-size, sized, house-stops, house-passes, made, refuses, accepts}
+use Rattle.refile.proofs.CallLaws.{first-passes, all-pass, sized, house-stops, house-passes, none-first, clear, not-false, made, refuses, accepts}
 
 -- ---- the house refusals of a content
 
@@ -132,18 +132,6 @@ module _ (hash : List ℕ) (k l f n : ℕ) (parent : List ℕ) where
   }
 
 -- what is known past the house refusals
-clear : (t : Bool × ℕ) (ts : List (Bool × ℕ)) → firstThat (t ∷ ts) ≡ none → (t .0 ≡ false) × (firstThat ts ≡ none)
-unfolding firstThat
-clear t ts = go (t .0)
-  where
-    go : (b : Bool) → pick b (some (t .1)) (firstThat ts) ≡ none → (b ≡ false) × (firstThat ts ≡ none)
-    go true e = let z : _≡_ {A = ℕ} 0 1 = cc in absurd (omega arith)
-    go false e = (refl, e)
-
-not-false : (b : Bool) → not b ≡ false → b ≡ true
-not-false true e = refl
-not-false false e = let z : _≡_ {A = ℕ} 0 1 = cc in absurd (omega arith)
-
 sized-hash : (h : List ℕ) → badHash h .0 ≡ false → length h ≡ hashSize
 unfolding badHash
 sized-hash h e = eqb-true (length h) hashSize (not-false (eqb (length h) hashSize) e)
@@ -152,8 +140,7 @@ module _ (hash : List ℕ) (k l f n : ℕ) (parent : List ℕ) (m : ℕ) (house 
   hashes-clear : (badHash hash .0 ≡ false) × (firstThat (parentHouse f n parent ∷ []) ≡ none)
   unfolding editHouse
   hashes-clear =
-      let none-first : firstThat (editHouse hash k l f n parent) ≡ none = house .first ∙ ap (λ (x : ℕ). firstHouse x) z in
-      let a = clear (badKind k) _ none-first in
+      let a = clear (badKind k) _ (none-first _ m house z) in
       let b = clear (badLabel k l) _ (a .1) in
       let c = clear (badFlag f) _ (b .1) in
       clear (badHash hash) _ (c .1)
@@ -177,10 +164,10 @@ parent-is f n p h e s i =
 pub parent-is-none : (f : ℕ) (v w : Revision) → (f ≡ 1 → ⊥) → parentFrom f v ≡ parentFrom f w
 parent-is-none f v w ne = rw (ne-eqb f 1 ne)
 
-module _ (s i hash : List ℕ) (k l f n : ℕ) (parent : List ℕ) (size : length s ≡ storeSize) where
+module _ (s i hash : List ℕ) (k l f n : ℕ) (parent : List ℕ) (fine : firstThat (lentHouse s) ≡ none) where
   pub edit-refused : (m r : ℕ) → House (editHouse hash k l f n parent) m → (m ≡ 0 → ⊥) → r ≡ result (refused m) → Keeps (editCall s i hash k l f n parent) r s s
   unfolding editCall
-  edit-refused m r h ne e = refuses m (good-size s _ s _ size ∙ house-stops s _ _ m h ne) ne e refl
+  edit-refused m r h ne e = refuses m (first-passes s _ _ _ fine ∙ house-stops s _ _ m h ne) ne e refl
 
   pub edit-done : (m : ℕ) (h : List ℕ) (c : Content) (v : Revision) (a : Edited) (left : List ℕ) (r : ℕ) → House (editHouse hash k l f n parent) m → m ≡ 0
       → IsHash hash 0 h → c ≡ contentFrom k l → parentFrom f v ≡ parentFrom f (revision n parent)
@@ -191,7 +178,7 @@ module _ (s i hash : List ℕ) (k l f n : ℕ) (parent : List ℕ) (size : lengt
       let whole : editOf i h c (eqb f 1) v ≡ record { id = i; hash = hash; content = contentFrom k l; parent = parentFrom f (revision n parent) }
       = λ x. record { id = i; hash = same x; content = e x; parent = p x } in
       let w : EditDone s (record { id = i; hash = hash; content = contentFrom k l; parent = parentFrom f (revision n parent) }) a left = rw whole at d in
-      accepts (made (good-size s _ s _ size ∙ house-passes s _ _ m house z) (q ∙ ap (λ (x : Edited). result (editedNumber x)) (w .answer)) (w .left)) (w .is)
+      accepts (made (first-passes s _ _ _ fine ∙ house-passes s _ _ m house z) (q ∙ ap (λ (x : Edited). result (editedNumber x)) (w .answer)) (w .left)) (w .is)
 
 -- ---- the path write
 
@@ -237,17 +224,17 @@ loads-on s image answer left r size l e = record {
 
 -- ---- pull
 
-module _ (t s answer : List ℕ) (q : ℕ) (tsize : length t ≡ storeSize) (ssize : length s ≡ storeSize) where
+module _ (t s answer : List ℕ) (q : ℕ) (tfine : firstThat (lentHouse t) ≡ none) (sfine : firstThat (lentHouse s) ≡ none) where
   abbrev pulled : Counts × Replica
   pulled = pull (record { 0 = q }) (replicaOf s) (replicaOf t)
 
-  sizes-pass : (o : Numbered × (List ℕ × List ℕ)) → call (badReplica t ∷ badReplica s ∷ []) (t, answer) o ≡ (result (o .0), o .1)
-  sizes-pass o = good-size (t, answer) o t (badReplica s ∷ []) tsize ∙ sized (t, answer) o s ssize
+  both-pass : (o : Numbered × (List ℕ × List ℕ)) → call (lentHouse t ++ lentHouse s) (t, answer) o ≡ (result (o .0), o .1)
+  both-pass o = first-passes (t, answer) o (lentHouse t) (lentHouse s) tfine ∙ all-pass (t, answer) o (lentHouse s) sfine
 
   pub pull-short : (r : ℕ) → length answer < 12 → r ≡ result (refused 14) → Keeps (pullCall t s q answer) r (t, answer) t
   unfolding pullCall countBytes shortAnswer
   pull-short r h e =
-      refuses 14 (sizes-pass _ ∙ ap (λ (o : Numbered × (List ℕ × List ℕ)). (result (o .0), o .1)) (short-answer _ _ _ answer h)) (λ z. omega arith) e refl
+      refuses 14 (both-pass _ ∙ ap (λ (o : Numbered × (List ℕ × List ℕ)). (result (o .0), o .1)) (short-answer _ _ _ answer h)) (λ z. omega arith) e refl
 
   pub pull-done : (c : Counts) (left answer′ : List ℕ) → 12 ≤ length answer → Pulled (record { 0 = q }) s t c left → answer′ ≡ front (countBytes c) answer
       → Keeps (pullCall t s q answer) 0 (left, answer′) left
@@ -255,4 +242,4 @@ module _ (t s answer : List ℕ) (q : ℕ) (tsize : length t ≡ storeSize) (ssi
   pull-done c left answer′ h p e =
       let b = p .bytes in
       let f : answer′ ≡ front (countBytes (pulled .0)) answer = e ∙ ap (λ (n : Counts). front (countBytes n) answer) (p .counts) in
-      accepts (made (sizes-pass _ ∙ ap (λ (o : Numbered × (List ℕ × List ℕ)). (result (o .0), o .1)) (room-answer _ _ _ answer h)) refl (λ i. (b i, f i))) (p .is-stored)
+      accepts (made (both-pass _ ∙ ap (λ (o : Numbered × (List ℕ × List ℕ)). (result (o .0), o .1)) (room-answer _ _ _ answer h)) refl (λ i. (b i, f i))) (p .is-stored)

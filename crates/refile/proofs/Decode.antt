@@ -1,6 +1,6 @@
 -- What a result says is what was said: of every result of every exported function. Assumes nothing.
 use mathlib.Core.Path.{_≡_, sym, ap, _∙_}
-use mathlib.Core.List.{[], _∷_}
+use mathlib.Core.List.{[], _∷_, _++_}
 use Prim.Native.Nat.{ℕ}
 use lib.Dec.{eqb, ltb}
 use lib.ListN.{length}
@@ -17,7 +17,7 @@ use Rattle.store.specs.Storage.{replicaOf}
 use Rattle.codec.specs.Codec.{loadBytes}
 use Rattle.writes.specs.Edit.{editOf}
 use Rattle.writes.specs.Path.{writeOf}
-use Rattle.refile.specs.Boundary.{result, badReplica, badKind, badLabel, badHash, editHouse, contentFrom, shortAnswer, changesAs, countBytes, heldBytes}
+use Rattle.refile.specs.Boundary.{result, badReplica, lentHouse, badKind, badLabel, badHash, editHouse, contentFrom, shortAnswer, changesAs, countBytes, heldBytes}
 use Rattle.refile.specs.Decode.{decode, InRange, said, Ever}
 use Rattle.refile.proofs.FairLaws.{decode-number, told-decodes, small, low, fresh-told, load-told, save-told, write-told, edit-told, pull-told, winner-told, leaves-told, path-told, missing-told, changes-told, counts-told, report-told, sequence-told}
 use Rattle.refile.proofs.change.refile_fresh.Kinds as freshC
@@ -67,43 +67,43 @@ pub load-decodes : Ever _ loadC.ps loadC.r loadC'.Asked loadC'.Learnt
 load-decodes κs a x s g h p = told-decodes (load-told (a .0 .now) (a .1 .0 .now)) (p .calls)
 
 pub save-decodes : Ever _ saveC.ps saveC.r saveC'.Asked saveC'.Learnt
-    (λ κs a x s. decode x ≡ said (badReplica (a .0 .now) ∷ []) (answeredNumber (save (replicaOf (a .0 .now)) (a .1 .0 .now) .0)))
+    (λ κs a x s. decode x ≡ said (lentHouse (a .0 .now)) (answeredNumber (save (replicaOf (a .0 .now)) (a .1 .0 .now) .0)))
 save-decodes κs a x s g h p = told-decodes (save-told (a .0 .now) [] (a .1 .0 .now) (small _ (g .1 .0))) p
 
 pub write-decodes : Ever _ writeC.ps writeC.r writeC'.Asked writeC'.Learnt
-    (λ κs a x s. decode x ≡ said (badReplica (a .0 .now) ∷ badKind (a .1 .1 .1 .1 .0) ∷ badLabel (a .1 .1 .1 .1 .0) (a .1 .1 .1 .1 .1 .0) ∷ []) (writtenNumber (write (replicaOf (a .0 .now)) (writeOf (a .1 .0 .now) (record { 0 = a .1 .1 .0 }) (a .1 .1 .1 .0 .now) (contentFrom (a .1 .1 .1 .1 .0) (a .1 .1 .1 .1 .1 .0))) .0)))
+    (λ κs a x s. decode x ≡ said (lentHouse (a .0 .now) ++ (badKind (a .1 .1 .1 .1 .0) ∷ badLabel (a .1 .1 .1 .1 .0) (a .1 .1 .1 .1 .1 .0) ∷ [])) (writtenNumber (write (replicaOf (a .0 .now)) (writeOf (a .1 .0 .now) (record { 0 = a .1 .1 .0 }) (a .1 .1 .1 .0 .now) (contentFrom (a .1 .1 .1 .1 .0) (a .1 .1 .1 .1 .1 .0))) .0)))
 write-decodes κs a x s g h p = told-decodes (write-told (a .0 .now) (a .1 .0 .now) (a .1 .1 .0) (a .1 .1 .1 .0 .now) (a .1 .1 .1 .1 .0) (a .1 .1 .1 .1 .1 .0) h) (p .calls)
 
 pub edit-decodes : Ever _ editC.ps editC.r editC'.Asked editC'.Learnt
-    (λ κs a x s. decode x ≡ said (badReplica (a .0 .now) ∷ editHouse (a .1 .1 .0 .now) (a .1 .1 .1 .0) (a .1 .1 .1 .1 .0) (a .1 .1 .1 .1 .1 .0) (a .1 .1 .1 .1 .1 .1 .0) (a .1 .1 .1 .1 .1 .1 .1 .0 .now)) (editedNumber (edit (replicaOf (a .0 .now)) (editOf (a .1 .0 .now) (a .1 .1 .0 .now) (contentFrom (a .1 .1 .1 .0) (a .1 .1 .1 .1 .0)) (eqb (a .1 .1 .1 .1 .1 .0) 1) (revision (a .1 .1 .1 .1 .1 .1 .0) (a .1 .1 .1 .1 .1 .1 .1 .0 .now))) .0)))
+    (λ κs a x s. decode x ≡ said (lentHouse (a .0 .now) ++ editHouse (a .1 .1 .0 .now) (a .1 .1 .1 .0) (a .1 .1 .1 .1 .0) (a .1 .1 .1 .1 .1 .0) (a .1 .1 .1 .1 .1 .1 .0) (a .1 .1 .1 .1 .1 .1 .1 .0 .now)) (editedNumber (edit (replicaOf (a .0 .now)) (editOf (a .1 .0 .now) (a .1 .1 .0 .now) (contentFrom (a .1 .1 .1 .0) (a .1 .1 .1 .1 .0)) (eqb (a .1 .1 .1 .1 .1 .0) 1) (revision (a .1 .1 .1 .1 .1 .1 .0) (a .1 .1 .1 .1 .1 .1 .1 .0 .now))) .0)))
 edit-decodes κs a x s g h p = told-decodes (edit-told (a .0 .now) (a .1 .0 .now) (a .1 .1 .0 .now) (a .1 .1 .1 .0) (a .1 .1 .1 .1 .0) (a .1 .1 .1 .1 .1 .0) (a .1 .1 .1 .1 .1 .1 .0) (a .1 .1 .1 .1 .1 .1 .1 .0 .now) h (low _ (g .1 .1 .1 .1 .1 .1 .0))) (p .calls)
 
 pub pull-decodes : Ever _ pullC.ps pullC.r pullC'.Asked pullC'.Learnt
-    (λ κs a x s. decode x ≡ said (badReplica (a .0 .now) ∷ badReplica (a .1 .0 .now) ∷ []) (pick (ltb (length (a .1 .1 .1 .0 .now)) (length (countBytes (pull (record { 0 = a .1 .1 .0 }) (replicaOf (a .1 .0 .now)) (replicaOf (a .0 .now)) .0)))) shortAnswer (accepted 0)))
+    (λ κs a x s. decode x ≡ said (lentHouse (a .0 .now) ++ lentHouse (a .1 .0 .now)) (pick (ltb (length (a .1 .1 .1 .0 .now)) (length (countBytes (pull (record { 0 = a .1 .1 .0 }) (replicaOf (a .1 .0 .now)) (replicaOf (a .0 .now)) .0)))) shortAnswer (accepted 0)))
 pull-decodes κs a x s g h p = told-decodes (pull-told (a .0 .now) (a .1 .0 .now) (a .1 .1 .0) (a .1 .1 .1 .0 .now)) (p .calls)
 
 pub winner-decodes : Ever _ winnerC.ps winnerC.r winnerC'.Asked winnerC'.Learnt
-    (λ κs a x s. decode x ≡ said (badReplica (a .0 .now) ∷ []) (answeredNumber (readWinner (replicaOf (a .0 .now)) (a .1 .0 .now) (a .1 .1 .0 .now) .0)))
+    (λ κs a x s. decode x ≡ said (lentHouse (a .0 .now)) (answeredNumber (readWinner (replicaOf (a .0 .now)) (a .1 .0 .now) (a .1 .1 .0 .now) .0)))
 winner-decodes κs a x s g h p = told-decodes (winner-told (a .0 .now) (a .1 .0 .now) (a .1 .1 .0 .now) (small _ (g .1 .1 .0))) p
 
 pub leaves-decodes : Ever _ leavesC.ps leavesC.r leavesC'.Asked leavesC'.Learnt
-    (λ κs a x s. decode x ≡ said (badReplica (a .0 .now) ∷ []) (answeredNumber (readLeaves (replicaOf (a .0 .now)) (a .1 .0 .now) (a .1 .1 .0 .now) .0)))
+    (λ κs a x s. decode x ≡ said (lentHouse (a .0 .now)) (answeredNumber (readLeaves (replicaOf (a .0 .now)) (a .1 .0 .now) (a .1 .1 .0 .now) .0)))
 leaves-decodes κs a x s g h p = told-decodes (leaves-told (a .0 .now) (a .1 .0 .now) (a .1 .1 .0 .now) (small _ (g .1 .1 .0))) p
 
 pub path-decodes : Ever _ pathC.ps pathC.r pathC'.Asked pathC'.Learnt
-    (λ κs a x s. decode x ≡ said (badReplica (a .0 .now) ∷ badHash (a .1 .1 .1 .0 .now) ∷ []) (answeredNumber (readPath (replicaOf (a .0 .now)) (a .1 .0 .now) (revision (a .1 .1 .0) (a .1 .1 .1 .0 .now)) (a .1 .1 .1 .1 .0 .now) .0)))
+    (λ κs a x s. decode x ≡ said (lentHouse (a .0 .now) ++ (badHash (a .1 .1 .1 .0 .now) ∷ [])) (answeredNumber (readPath (replicaOf (a .0 .now)) (a .1 .0 .now) (revision (a .1 .1 .0) (a .1 .1 .1 .0 .now)) (a .1 .1 .1 .1 .0 .now) .0)))
 path-decodes κs a x s g h p = told-decodes (path-told (a .0 .now) (a .1 .0 .now) (a .1 .1 .1 .1 .0 .now) (small _ (g .1 .1 .1 .1 .0)) (a .1 .1 .0) (a .1 .1 .1 .0 .now) (low _ (g .1 .1 .0))) p
 
 pub missing-decodes : Ever _ missingC.ps missingC.r missingC'.Asked missingC'.Learnt
-    (λ κs a x s. decode x ≡ said (badReplica (a .0 .now) ∷ []) (answeredNumber (readMissing (replicaOf (a .0 .now)) (a .1 .0 .now) (a .1 .1 .0 .now) (a .1 .1 .1 .0 .now) .0)))
+    (λ κs a x s. decode x ≡ said (lentHouse (a .0 .now)) (answeredNumber (readMissing (replicaOf (a .0 .now)) (a .1 .0 .now) (a .1 .1 .0 .now) (a .1 .1 .1 .0 .now) .0)))
 missing-decodes κs a x s g h p = told-decodes (missing-told (a .0 .now) (a .1 .0 .now) (a .1 .1 .1 .0 .now) (small _ (g .1 .1 .1 .0)) (a .1 .1 .0 .now)) p
 
 pub changes-decodes : Ever _ changesC.ps changesC.r changesC'.Asked changesC'.Learnt
-    (λ κs a x s. decode x ≡ said (badReplica (a .0 .now) ∷ []) (changesAs (a .1 .1 .0 .now) (a .1 .1 .1 .0 .now) (readChanges (replicaOf (a .0 .now)) (record { 0 = a .1 .0 }) (a .1 .1 .0 .now)) .0))
+    (λ κs a x s. decode x ≡ said (lentHouse (a .0 .now)) (changesAs (a .1 .1 .0 .now) (a .1 .1 .1 .0 .now) (readChanges (replicaOf (a .0 .now)) (record { 0 = a .1 .0 }) (a .1 .1 .0 .now)) .0))
 changes-decodes κs a x s g h p = told-decodes (changes-told (a .0 .now) (a .1 .0) (a .1 .1 .0 .now) (a .1 .1 .1 .0 .now)) p
 
 pub counts-decodes : Ever _ countsC.ps countsC.r countsC'.Asked countsC'.Learnt
-    (λ κs a x s. decode x ≡ said (badReplica (a .0 .now) ∷ []) (pick (ltb (length (a .1 .0 .now)) (length (heldBytes (heldIn (replicaOf (a .0 .now)))))) shortAnswer (accepted 0)))
+    (λ κs a x s. decode x ≡ said (lentHouse (a .0 .now)) (pick (ltb (length (a .1 .0 .now)) (length (heldBytes (heldIn (replicaOf (a .0 .now)))))) shortAnswer (accepted 0)))
 counts-decodes κs a x s g h p = told-decodes (counts-told (a .0 .now) (a .1 .0 .now)) p
 
 pub report-decodes : Ever _ reportC.ps reportC.r reportC'.Asked reportC'.Learnt
@@ -111,5 +111,5 @@ pub report-decodes : Ever _ reportC.ps reportC.r reportC'.Asked reportC'.Learnt
 report-decodes κs a x s g h p = told-decodes (report-told (a .0 .now) (a .1 .0 .now) (small _ (g .1 .0))) p
 
 pub sequence-decodes : Ever _ sequenceC.ps sequenceC.r sequenceC'.Asked sequenceC'.Learnt
-    (λ κs a x s. decode x ≡ said (badReplica (a .0 .now) ∷ []) (accepted (replicaOf (a .0 .now) .seq .0)))
+    (λ κs a x s. decode x ≡ said (lentHouse (a .0 .now)) (accepted (replicaOf (a .0 .now) .seq .0)))
 sequence-decodes κs a x s g h p = ap (λ (r : ℕ). decode r) p ∙ sequence-told (a .0 .now) h

@@ -5,7 +5,7 @@ use mathlib.Core.List.{List, [], _∷_, _++_, map}
 use mathlib.Core.Option.{Option, none, some}
 use Prim.Native.Nat.{ℕ, zero, suc, _+_, _*_, _/_, _%_, _^_, _<_, _≤_}
 use native.Mathlib.Omega.{arith}
-use borrow.Author.Tests.{le-leb, lt-leb, eqb-true, ltb-true, ltb-false}
+use borrow.Author.Tests.{le-leb, lt-leb, ltb-true, ltb-false}
 use lib.Dec.{eqb, ltb}
 use lib.ListN.{length, length-append}
 use Rattle.rules.specs.declared.Answered.the-variants as answered
@@ -38,10 +38,11 @@ use Rattle.writes.specs.Path.{writeOf}
 use Rattle.rules.proofs.ByteLaws.{length-be}
 use Rattle.union.proofs.Winners.{winner-top}
 use Rattle.report.proofs.FaultLaws.{place-most}
-use Rattle.store.specs.Storage.{storeSize, stored, replicaOf, IsStored}
+use Rattle.store.specs.Storage.{stored, replicaOf, IsStored}
 use Rattle.codec.specs.Codec.{loadBytes}
 use Rattle.reads.proofs.AnswerLaws.{first-past, first-some}
-use Rattle.refile.specs.Boundary.{result, resultOf, call, Calls, Lent, badReplica, badKind, badLabel, badFlag, badHash, badNoParent, parentHouse, editHouse, contentFrom, parentFrom, shortAnswer, changesAs, changeBytes, countBytes, heldBytes, freshCall, loadCall, saveCall, writeCall, editCall, winnerCall, leavesCall, pathCall, missingCall, changesCall, pullCall, sequenceCall, countsCall, reportCall}
+use Rattle.refile.specs.Boundary.{result, resultOf, call, Calls, Lent, badReplica, badStart, lentHouse, badKind, badLabel, badFlag, badHash, badNoParent, parentHouse, editHouse, contentFrom, parentFrom, shortAnswer, changesAs, changeBytes, countBytes, heldBytes, freshCall, loadCall, saveCall, writeCall, editCall, winnerCall, leavesCall, pathCall, missingCall, changesCall, pullCall, sequenceCall, countsCall, reportCall}
+use Rattle.refile.proofs.CallLaws.{lent-stands}
 use Rattle.refile.specs.Decode.{refusalIn, valueIn, decode, RangeOf, InRange, said}
 
 -- what a result says is what was said
@@ -88,25 +89,25 @@ told-leaves t c h = c .leaves ∙ t .refuses (let e = c .answers in omega arith)
 
 abbrev Small : List (Bool × ℕ) → Type 0
 Small [] = Unit {0}
-Small (t ∷ ts) = ((1 ≤ t .1) × (t .1 ≤ 105)) × Small ts
+Small (t ∷ ts) = ((1 ≤ t .1) × (t .1 ≤ 106)) × Small ts
 
 some-same : (a b : ℕ) → some a ≡ some b → a ≡ b
 some-same a b e = cc
 
-small-first : (house : List (Bool × ℕ)) → Small house → (n : ℕ) → firstThat house ≡ some n → (1 ≤ n) × (n ≤ 105)
+small-first : (house : List (Bool × ℕ)) → Small house → (n : ℕ) → firstThat house ≡ some n → (1 ≤ n) × (n ≤ 106)
 unfolding firstThat
 small-first [] h n e = absurd (let z : _≡_ {A = ℕ} 0 1 = cc in omega arith)
 small-first (t ∷ ts) h n e = go (t .0) (small-first ts (h .1) n) e
   where
-    go : (b : Bool) → (firstThat ts ≡ some n → (1 ≤ n) × (n ≤ 105)) → pick b (some (t .1)) (firstThat ts) ≡ some n → (1 ≤ n) × (n ≤ 105)
+    go : (b : Bool) → (firstThat ts ≡ some n → (1 ≤ n) × (n ≤ 106)) → pick b (some (t .1)) (firstThat ts) ≡ some n → (1 ≤ n) × (n ≤ 106)
     go true ih q = let same : t .1 ≡ n = some-same (t .1) n q in let k = h .0 in (omega arith, omega arith)
     go false ih q = ih q
 
-refused-range : (n : ℕ) → 1 ≤ n → n ≤ 105 → InRange (refused n)
+refused-range : (n : ℕ) → 1 ≤ n → n ≤ 106 → InRange (refused n)
 refused-range zero h k = absurd (omega arith)
 refused-range (suc n) h k = (k, omega arith)
 
-refused-fair : {L : Type 0} (lent : L) (n : ℕ) → 1 ≤ n → n ≤ 105 → Fair lent (refused n, lent)
+refused-fair : {L : Type 0} (lent : L) (n : ℕ) → 1 ≤ n → n ≤ 106 → Fair lent (refused n, lent)
 refused-fair lent n h k = record { range = refused-range n h k; leaves = λ x. refl }
 
 module _ {L : Type 0} (house : List (Bool × ℕ)) (lent : L) (o : Numbered × L) where
@@ -118,18 +119,26 @@ module _ {L : Type 0} (house : List (Bool × ℕ)) (lent : L) (o : Numbered × L
       go none e = fair-told lent o (f e)
       go (some n) e = let k = small-first house s n e in fair-told lent (refused n, lent) (refused-fair lent n (k .0) (k .1))
 
--- past 100 the replica's buffer has its size
-sized-first : (s : List ℕ) (house : List (Bool × ℕ)) → firstThat (badReplica s ∷ house) ≡ none → length s ≡ storeSize
-unfolding firstThat badReplica
-sized-first s house e = eqb-true (length s) storeSize (go (eqb (length s) storeSize) e)
+lent-small : (s : List ℕ) (house : List (Bool × ℕ)) → Small house → Small (lentHouse s ++ house)
+unfolding lentHouse badReplica badStart
+lent-small s house h = ((omega arith, omega arith), ((omega arith, omega arith), h))
+
+-- the same with no other house refusal
+lent-alone : (s : List ℕ) → Small (lentHouse s)
+unfolding lentHouse badReplica badStart
+lent-alone s = ((omega arith, omega arith), ((omega arith, omega arith), tt))
+
+-- past the first house refusals
+first-none : (ts us : List (Bool × ℕ)) → firstThat (ts ++ us) ≡ none → firstThat ts ≡ none
+first-none ts us e = go (firstThat ts) refl
   where
-    go : (b : Bool) → pick (not b) (some 100) (firstThat house) ≡ none → b ≡ true
-    go true q = refl
-    go false q = absurd (let z : _≡_ {A = ℕ} 0 1 = cc in omega arith)
+    go : (x : Option ℕ) → firstThat ts ≡ x → firstThat ts ≡ none
+    go none q = q
+    go (some n) q = let p = first-some ts us n q in absurd (let z : _≡_ {A = ℕ} 0 1 = cc in omega arith)
 
 -- ---- the rules' refusals
 
-refusal-small : (x : Refusal) → (1 ≤ refusalNumber x) × (refusalNumber x ≤ 105)
+refusal-small : (x : Refusal) → (1 ≤ refusalNumber x) × (refusalNumber x ≤ 106)
 refusal-small BadId = (omega arith, omega arith)
 refusal-small BadPath = (omega arith, omega arith)
 refusal-small LowNumber = (omega arith, omega arith)
@@ -210,30 +219,30 @@ path-number (suc n) t v = go (parentIn (find orderRev v t)) (path-number n t)
     go (some u) ih = let h = ih u in omega arith
 
 module _ (s : List ℕ) (i : Id) (out : List ℕ) (small : length out < 9223372036854775808) where
-  pub save-told : Told (said (badReplica s ∷ []) (answeredNumber (save (replicaOf s) out .0))) out (saveCall s out)
-  unfolding saveCall save badReplica
-  save-told = call-told (badReplica s ∷ []) out _ ((omega arith, omega arith), tt) (λ e. reads-fair _ _ _ out (λ h. omega arith))
+  pub save-told : Told (said (lentHouse s) (answeredNumber (save (replicaOf s) out .0))) out (saveCall s out)
+  unfolding saveCall save
+  save-told = call-told (lentHouse s) out _ (lent-alone s) (λ e. reads-fair _ _ _ out (λ h. omega arith))
 
-  pub winner-told : Told (said (badReplica s ∷ []) (answeredNumber (readWinner (replicaOf s) i out .0))) out (winnerCall s i out)
-  unfolding winnerCall readWinner badReplica
-  winner-told = call-told (badReplica s ∷ []) out _ ((omega arith, omega arith), tt) (λ e. reads-fair _ _ _ out (λ h. omega arith))
+  pub winner-told : Told (said (lentHouse s) (answeredNumber (readWinner (replicaOf s) i out .0))) out (winnerCall s i out)
+  unfolding winnerCall readWinner
+  winner-told = call-told (lentHouse s) out _ (lent-alone s) (λ e. reads-fair _ _ _ out (λ h. omega arith))
 
-  pub leaves-told : Told (said (badReplica s ∷ []) (answeredNumber (readLeaves (replicaOf s) i out .0))) out (leavesCall s i out)
-  unfolding leavesCall readLeaves badReplica
+  pub leaves-told : Told (said (lentHouse s) (answeredNumber (readLeaves (replicaOf s) i out .0))) out (leavesCall s i out)
+  unfolding leavesCall readLeaves
   leaves-told =
-      call-told (badReplica s ∷ []) out _ ((omega arith, omega arith), tt)
+      call-told (lentHouse s) out _ (lent-alone s)
       (λ e. reads-fair _ _ _ out (λ h. let k = leaves-bytes (leaves (treeOf (replicaOf s) i)) in omega arith))
 
   pub path-told : (number : ℕ) (hash : List ℕ) → number < 4294967296
-      → Told (said (badReplica s ∷ badHash hash ∷ []) (answeredNumber (readPath (replicaOf s) i (revision number hash) out .0))) out (pathCall s i number hash out)
-  unfolding pathCall readPath pathOf badReplica badHash
+      → Told (said (lentHouse s ++ (badHash hash ∷ [])) (answeredNumber (readPath (replicaOf s) i (revision number hash) out .0))) out (pathCall s i number hash out)
+  unfolding pathCall readPath pathOf badHash
   path-told number hash low =
-      call-told (badReplica s ∷ badHash hash ∷ []) out _ ((omega arith, omega arith), ((omega arith, omega arith), tt))
+      call-told (lentHouse s ++ (badHash hash ∷ [])) out _ (lent-small s _ ((omega arith, omega arith), tt))
       (λ e. reads-fair _ _ _ out (λ h. let k = path-number number (treeOf (replicaOf s) i) (revision number hash) in omega arith))
 
-  pub missing-told : (asked : List ℕ) → Told (said (badReplica s ∷ []) (answeredNumber (readMissing (replicaOf s) i asked out .0))) out (missingCall s i asked out)
-  unfolding missingCall readMissing badReplica
-  missing-told asked = call-told (badReplica s ∷ []) out _ ((omega arith, omega arith), tt) (λ e. reads-fair _ _ _ out (λ h. omega arith))
+  pub missing-told : (asked : List ℕ) → Told (said (lentHouse s) (answeredNumber (readMissing (replicaOf s) i asked out .0))) out (missingCall s i asked out)
+  unfolding missingCall readMissing
+  missing-told asked = call-told (lentHouse s) out _ (lent-alone s) (λ e. reads-fair _ _ _ out (λ h. omega arith))
 
 pub report-told : (image out : List ℕ) → length out < 9223372036854775808
     → Told (answeredNumber (readReport image out .0)) out (reportCall image out)
@@ -248,25 +257,25 @@ module _ (s : List ℕ) (after : ℕ) (out answer : List ℕ) where
   changes-fair (changes.NoMore, left) = accepted-fair (out, answer) _ 0 (omega arith)
   changes-fair (changes.Refused n, left) = rules-fair (out, answer) _ n refl
 
-  pub changes-told : Told (said (badReplica s ∷ []) (changesAs out answer (readChanges (replicaOf s) (record { 0 = after }) out) .0)) (out, answer) (changesCall s after out answer)
-  unfolding changesCall badReplica
-  changes-told = call-told (badReplica s ∷ []) (out, answer) _ ((omega arith, omega arith), tt) (λ e. changes-fair (readChanges (replicaOf s) (record { 0 = after }) out))
+  pub changes-told : Told (said (lentHouse s) (changesAs out answer (readChanges (replicaOf s) (record { 0 = after }) out) .0)) (out, answer) (changesCall s after out answer)
+  unfolding changesCall
+  changes-told = call-told (lentHouse s) (out, answer) _ (lent-alone s) (λ e. changes-fair (readChanges (replicaOf s) (record { 0 = after }) out))
 
 pub counts-told : (s answer : List ℕ)
-    → Told (said (badReplica s ∷ []) (pick (ltb (length answer) (length (heldBytes (heldIn (replicaOf s))))) shortAnswer (accepted 0))) answer (countsCall s answer)
-unfolding countsCall badReplica
+    → Told (said (lentHouse s) (pick (ltb (length answer) (length (heldBytes (heldIn (replicaOf s))))) shortAnswer (accepted 0))) answer (countsCall s answer)
+unfolding countsCall
 counts-told s answer = go (ltb (length answer) (length (heldBytes (heldIn (replicaOf s)))))
   where
-    go : (b : Bool) → Told (said (badReplica s ∷ []) (pick b shortAnswer (accepted 0))) answer
-        (call (badReplica s ∷ []) answer (pick b (shortAnswer, answer) (accepted 0, front (heldBytes (heldIn (replicaOf s))) answer)))
-    go true = call-told (badReplica s ∷ []) answer (shortAnswer, answer) ((omega arith, omega arith), tt) (λ e. short-fair answer answer 0 true (omega arith))
-    go false = call-told (badReplica s ∷ []) answer _ ((omega arith, omega arith), tt) (λ e. accepted-fair answer _ 0 (omega arith))
+    go : (b : Bool) → Told (said (lentHouse s) (pick b shortAnswer (accepted 0))) answer
+        (call (lentHouse s) answer (pick b (shortAnswer, answer) (accepted 0, front (heldBytes (heldIn (replicaOf s))) answer)))
+    go true = call-told (lentHouse s) answer (shortAnswer, answer) (lent-alone s) (λ e. short-fair answer answer 0 true (omega arith))
+    go false = call-told (lentHouse s) answer _ (lent-alone s) (λ e. accepted-fair answer _ 0 (omega arith))
 
-pub sequence-told : (s : List ℕ) → Lent s → decode (sequenceCall s) ≡ said (badReplica s ∷ []) (accepted (replicaOf s .seq .0))
-unfolding sequenceCall badReplica
+pub sequence-told : (s : List ℕ) → Lent s → decode (sequenceCall s) ≡ said (lentHouse s) (accepted (replicaOf s .seq .0))
+unfolding sequenceCall
 sequence-told s l =
-    call-told {L = Unit {0}} (badReplica s ∷ []) tt (accepted (replicaOf s .seq .0), tt) ((omega arith, omega arith), tt)
-    (λ e. accepted-fair {L = Unit {0}} tt tt (replicaOf s .seq .0) (let m = l (sized-first s [] e) .replica .seq-most in omega arith))
+    call-told {L = Unit {0}} (lentHouse s) tt (accepted (replicaOf s .seq .0), tt) (lent-alone s)
+    (λ e. accepted-fair {L = Unit {0}} tt tt (replicaOf s .seq .0) (let m = lent-stands s e l .replica .seq-most in omega arith))
     .decodes
 
 -- ---- fresh and load
@@ -304,13 +313,13 @@ module _ (s : List ℕ) (w : Write) where
       go (some x) b = rules-fair s _ x (sym (is .same))
 
 pub write-told : (s i : List ℕ) (number : ℕ) (path : List ℕ) (kind label : ℕ) → Lent s
-    → Told (said (badReplica s ∷ badKind kind ∷ badLabel kind label ∷ []) (writtenNumber (write (replicaOf s) (writeOf i (record { 0 = number }) path (contentFrom kind label)) .0))) s
+    → Told (said (lentHouse s ++ (badKind kind ∷ badLabel kind label ∷ [])) (writtenNumber (write (replicaOf s) (writeOf i (record { 0 = number }) path (contentFrom kind label)) .0))) s
     (writeCall s i number path kind label)
-unfolding writeCall badReplica badKind badLabel
+unfolding writeCall badKind badLabel
 write-told s i number path kind label l =
-    call-told (badReplica s ∷ badKind kind ∷ badLabel kind label ∷ []) s _
-    ((omega arith, omega arith), ((omega arith, omega arith), ((omega arith, omega arith), tt)))
-    (λ e. write-fair s (writeOf i (record { 0 = number }) path (contentFrom kind label)) (l (sized-first s _ e)))
+    call-told (lentHouse s ++ (badKind kind ∷ badLabel kind label ∷ [])) s _
+    (lent-small s _ ((omega arith, omega arith), ((omega arith, omega arith), tt)))
+    (λ e. write-fair s (writeOf i (record { 0 = number }) path (contentFrom kind label)) (lent-stands s (first-none (lentHouse s) _ e) l))
 
 -- ---- edit: the new number is one above that of a revision
 
@@ -363,22 +372,22 @@ named-low : (number : ℕ) (parent : List ℕ) (b : Bool) → number < 429496729
 named-low number parent true low v q = let n : number ≡ v .number .0 = ap (λ (o : Option Revision). maybe 0 (λ u. u .number .0) o) q in omega arith
 named-low number parent false low v q = absurd (let z : _≡_ {A = ℕ} 0 1 = cc in omega arith)
 
-parent-small : (named number : ℕ) (parent : List ℕ) → (1 ≤ parentHouse named number parent .1) × (parentHouse named number parent .1 ≤ 105)
+parent-small : (named number : ℕ) (parent : List ℕ) → (1 ≤ parentHouse named number parent .1) × (parentHouse named number parent .1 ≤ 106)
 unfolding parentHouse badHash badNoParent
 parent-small named number parent = go (eqb named 1)
   where
-    go : (b : Bool) → (1 ≤ pick b (badHash parent) (badNoParent number parent) .1) × (pick b (badHash parent) (badNoParent number parent) .1 ≤ 105)
+    go : (b : Bool) → (1 ≤ pick b (badHash parent) (badNoParent number parent) .1) × (pick b (badHash parent) (badNoParent number parent) .1 ≤ 106)
     go true = (omega arith, omega arith)
     go false = (omega arith, omega arith)
 
 pub edit-told : (s i hash : List ℕ) (kind label named number : ℕ) (parent : List ℕ) → Lent s → number < 4294967296
-    → Told (said (badReplica s ∷ editHouse hash kind label named number parent) (editedNumber (edit (replicaOf s) (editOf i hash (contentFrom kind label) (eqb named 1) (revision number parent)) .0))) s
+    → Told (said (lentHouse s ++ editHouse hash kind label named number parent) (editedNumber (edit (replicaOf s) (editOf i hash (contentFrom kind label) (eqb named 1) (revision number parent)) .0))) s
     (editCall s i hash kind label named number parent)
-unfolding editCall editHouse badReplica badKind badLabel badFlag badHash
+unfolding editCall editHouse badKind badLabel badFlag badHash
 edit-told s i hash kind label named number parent l low =
-    call-told (badReplica s ∷ editHouse hash kind label named number parent) s _
-    ((omega arith, omega arith), ((omega arith, omega arith), ((omega arith, omega arith), ((omega arith, omega arith), ((omega arith, omega arith), (parent-small named number parent, tt))))))
-    (λ e. edit-fair s (editOf i hash (contentFrom kind label) (eqb named 1) (revision number parent)) (l (sized-first s _ e)) (named-low number parent (eqb named 1) low))
+    call-told (lentHouse s ++ editHouse hash kind label named number parent) s _
+    (lent-small s _ ((omega arith, omega arith), ((omega arith, omega arith), ((omega arith, omega arith), ((omega arith, omega arith), (parent-small named number parent, tt))))))
+    (λ e. edit-fair s (editOf i hash (contentFrom kind label) (eqb named 1) (revision number parent)) (lent-stands s (first-none (lentHouse s) _ e) l) (named-low number parent (eqb named 1) low))
 
 -- ---- pull
 
@@ -391,17 +400,17 @@ module _ (t s : List ℕ) (after : ℕ) (answer : List ℕ) where
   abbrev done : List ℕ × List ℕ
   done = (stored (pull (record { 0 = after }) (replicaOf s) (replicaOf t) .1), front pulled answer)
 
-  pub pull-told : Told (said (badReplica t ∷ badReplica s ∷ []) (pick (ltb (length answer) (length pulled)) shortAnswer (accepted 0))) (t, answer) (pullCall t s after answer)
-  unfolding pullCall badReplica
+  pub pull-told : Told (said (lentHouse t ++ lentHouse s) (pick (ltb (length answer) (length pulled)) shortAnswer (accepted 0))) (t, answer) (pullCall t s after answer)
+  unfolding pullCall
   pull-told = go (ltb (length answer) (length pulled))
     where
-      small : Small (badReplica t ∷ badReplica s ∷ [])
-      small = ((omega arith, omega arith), ((omega arith, omega arith), tt))
+      small : Small (lentHouse t ++ lentHouse s)
+      small = lent-small t (lentHouse s) (lent-alone s)
 
-      go : (b : Bool) → Told (said (badReplica t ∷ badReplica s ∷ []) (pick b shortAnswer (accepted 0))) (t, answer)
-          (call (badReplica t ∷ badReplica s ∷ []) (t, answer) (pick b (shortAnswer, (t, answer)) (accepted 0, done)))
-      go true = call-told (badReplica t ∷ badReplica s ∷ []) (t, answer) (shortAnswer, (t, answer)) small (λ e. short-fair (t, answer) (t, answer) 0 true (omega arith))
-      go false = call-told (badReplica t ∷ badReplica s ∷ []) (t, answer) (accepted 0, done) small (λ e. accepted-fair (t, answer) done 0 (omega arith))
+      go : (b : Bool) → Told (said (lentHouse t ++ lentHouse s) (pick b shortAnswer (accepted 0))) (t, answer)
+          (call (lentHouse t ++ lentHouse s) (t, answer) (pick b (shortAnswer, (t, answer)) (accepted 0, done)))
+      go true = call-told (lentHouse t ++ lentHouse s) (t, answer) (shortAnswer, (t, answer)) small (λ e. short-fair (t, answer) (t, answer) 0 true (omega arith))
+      go false = call-told (lentHouse t ++ lentHouse s) (t, answer) (accepted 0, done) small (λ e. accepted-fair (t, answer) done 0 (omega arith))
 
 -- ---- what C can pass: a slice fits into memory, and a number of four bytes is below 2^32
 
@@ -417,5 +426,5 @@ pub still-lent : (r : ℕ) (before after : List ℕ) → (r < 922337203685477580
 still-lent r before after stands refuses l = go (ltb r 9223372036854775808) refl
   where
     go : (b : Bool) → ltb r 9223372036854775808 ≡ b → Lent after
-    go true e = λ size. stands (ltb-true r 9223372036854775808 e)
+    go true e = λ size start. stands (ltb-true r 9223372036854775808 e)
     go false e = rw (refuses (ltb-false r 9223372036854775808 e)) l

@@ -1,12 +1,24 @@
 -- From the promises alone: a refused call leaves every buffer as it came, and an accepted one leaves a
 -- replica where it was lent one to change. Assumes nothing.
-use mathlib.Core.Path.{_≡_, ap}
+use mathlib.Core.Path.{_≡_, refl, sym, ap, _∙_, subst}
 use mathlib.Core.List.{List, []}
+use mathlib.Core.Option.{none}
 use Prim.Native.Nat.{ℕ, _<_, _≤_}
-use Rattle.store.specs.Storage.{IsStored}
-use Rattle.refile.specs.Boundary.{Lent}
+use lib.ListN.{length, replicate}
+use Rattle.rules.specs.Bytes.{be, value, valueFrom, part}
+use Rattle.rules.specs.Choice.{firstThat}
+use Rattle.rules.specs.Image.{headOf}
+use Rattle.rules.specs.Replica.{Replica, IsReplica, fresh}
+use Rattle.union.proofs.Demand3.{fresh-is-replica}
+use Rattle.store.specs.Storage.{storeSize, storedHead, stored, replicaOf, IsStored}
+use Rattle.store.proofs.FitLaws.{stored-laid}
+use Rattle.store.proofs.StoredLaws.{size-laid, stored-back, fresh-fits, fresh-stored}
+use Rattle.refile.specs.Boundary.{Lent, lentHouse}
 use Rattle.refile.specs.Decode.{Ever}
+use Rattle.refile.proofs.CallLaws.{none-first, lent-fine}
 use Rattle.refile.proofs.FairLaws.{told-leaves, small, low, still-lent, fresh-told, load-told, save-told, write-told, edit-told, pull-told, winner-told, leaves-told, path-told, missing-told, changes-told, counts-told, report-told}
+use Rattle.refile.proofs.about.refile_is_replica.Kinds as isC
+use Rattle.refile.proofs.about.refile_is_replica.Reads as isC'
 use Rattle.refile.proofs.change.refile_fresh.Kinds as freshC
 use Rattle.refile.proofs.change.refile_fresh.Reads as freshC'
 use Rattle.refile.proofs.change.refile_load.Kinds as loadC
@@ -111,3 +123,32 @@ edit-keeps κs a x s g h p = still-lent x (a .0 .now) (s .0 .now) (p .stands) (e
 
 pub pull-keeps : Ever _ pullC.ps pullC.r pullC'.Asked pullC'.Learnt (λ κs a x s. Lent (s .0 .now))
 pull-keeps κs a x s g h p = still-lent x (a .0 .now) (s .0 .now) (p .stands) (λ k. ap (λ (b : List ℕ × List ℕ). b .0) (pull-refused κs a x s g h p k)) (h .0)
+
+-- and it is never refused by 100 or 106
+
+starts : (r : Replica) → headOf (stored r) .edition ≡ 0
+unfolding stored storedHead headOf part value valueFrom be
+starts r = refl
+
+pub replica-passes : (s : List ℕ) → IsStored s → firstThat (lentHouse s) ≡ none
+replica-passes s is =
+    none-first (lentHouse s) 0
+    (lent-fine s (size-laid s (stored-laid s is)) (ap (λ (b : List ℕ). headOf b .edition) (is .same) ∙ starts (replicaOf s)))
+    refl
+
+-- a buffer of zeros is a fresh replica, without a call
+pub zeros-are-fresh : IsStored (replicate storeSize 0) × (replicaOf (replicate storeSize 0) ≡ fresh)
+zeros-are-fresh =
+    let back : replicaOf (replicate storeSize 0) ≡ fresh = ap replicaOf (sym fresh-stored) ∙ stored-back fresh fresh-fits in
+    (record { same = sym fresh-stored ∙ ap stored (sym back); replica = subst IsReplica (sym back) fresh-is-replica }, back)
+
+-- any bytes of which it is said that they are a replica's may be lent as one
+pub told-lends : Ever _ isC.ps isC.r isC'.Asked isC'.Learnt (λ κs a x s. x ≡ 1 → Lent (a .0 .now))
+told-lends κs a x s g h p q = λ size start. p .yes q
+
+-- and of bytes that have another size, or another start, nothing is required: they are refused by 100 or 106
+pub other-size-lends : (s : List ℕ) → (length s ≡ storeSize → ⊥) → Lent s
+other-size-lends s other = λ size start. absurd (other size)
+
+pub other-start-lends : (s : List ℕ) → (headOf s .edition ≡ 0 → ⊥) → Lent s
+other-start-lends s other = λ size start. absurd (other start)

@@ -4,7 +4,11 @@ use mathlib.Core.List.{List}
 use Prim.Native.Nat.{ℕ}
 use Rattle.rules.specs.Outcome.{OneOutcome, nothing}
 use Rattle.rules.proofs.OutcomeLaws.{fixed}
-use Rattle.refile.proofs.CallLaws.{calls-one, keeps-one}
+use Rattle.refile.proofs.CallLaws.{calls-one, keeps-one, says-one}
+use Rattle.refile.proofs.about.refile_is_replica.Kinds as isReplica
+use Rattle.refile.proofs.about.refile_is_replica.Reads as isReplica'
+use Rattle.refile.proofs.about.refile_version.Kinds as version
+use Rattle.refile.proofs.about.refile_version.Reads as version'
 use Rattle.refile.proofs.change.refile_fresh.Kinds as fresh
 use Rattle.refile.proofs.change.refile_fresh.Reads as fresh'
 use Rattle.refile.proofs.change.refile_load.Kinds as load
@@ -78,3 +82,9 @@ refile-counts-outcome κs a x y s t h p q = calls-one p q
 
 pub refile-report-outcome : OneOutcome _ report.ps report.r report'.Asked report'.Learnt (λ κs s. s .1 .0 .now)
 refile-report-outcome κs a x y s t h p q = calls-one p q
+
+pub refile-version-outcome : OneOutcome _ version.ps version.r version'.Asked version'.Learnt nothing
+refile-version-outcome κs a x y s t h p q = (fixed p q, refl)
+
+pub refile-is-replica-outcome : OneOutcome _ isReplica.ps isReplica.r isReplica'.Asked isReplica'.Learnt nothing
+refile-is-replica-outcome κs a x y s t h p q = (says-one x y p q, refl)

@@ -1,7 +1,7 @@
 -- What a read across the C boundary answers and leaves. Assumes nothing.
 use mathlib.Core.Path.{_≡_, refl, sym, ap, _∙_}
 use mathlib.Core.Bool.{Bool, true, false, not}
-use mathlib.Core.List.{List, [], _∷_}
+use mathlib.Core.List.{List, [], _∷_, _++_}
 use mathlib.Core.Option.{Option, none, some}
 use Prim.Native.Nat.{ℕ, _≤_, _<_}
 use native.Mathlib.Omega.{arith}
@@ -14,6 +14,8 @@ use Rattle.rules.specs.declared.Change.{Change}
 use Rattle.rules.specs.declared.Changes.{Changes}
 use Rattle.rules.specs.declared.Changes.the-variants as changed
 use Rattle.rules.specs.declared.Held.{Held}
+use Rattle.rules.specs.declared.Next.{Next}
+use Rattle.rules.specs.declared.Next.the-variants.{Nobody, At}
 use Rattle.rules.specs.declared.Refusal.{Refusal}
 use Rattle.rules.specs.declared.Refusal.the-variants.{ShortBuffer}
 use Rattle.rules.specs.declared.Seq.{Seq}
@@ -28,12 +30,10 @@ use Rattle.rules.specs.Report.{readReport}
 use Rattle.rules.specs.Room.{hashSize}
 use Rattle.octets.specs.Octets.{IsHash}
 use Rattle.store.specs.Documents.{documentsOf}
-use Rattle.store.specs.Storage.{storeSize, replicaOf}
-use Rattle.reads.specs.declared.replica.Next.{Next}
-use Rattle.reads.specs.declared.replica.Next.the-variants.{Nobody, At}
+use Rattle.store.specs.Storage.{replicaOf}
 use Rattle.reads.specs.Next.{IsNext}
-use Rattle.refile.specs.Boundary.{result, call, Calls, badReplica, badHash, shortAnswer, numbers, flagNumber, changeBytes, changesAs, heldBytes, pathCall, changesCall, countsCall, reportCall}
-use Rattle.refile.proofs.CallLaws.{stops, passes, done, good-size, sized, made}
+use Rattle.refile.specs.Boundary.{result, call, Calls, lentHouse, badHash, shortAnswer, numbers, flagNumber, changeBytes, changesAs, heldBytes, pathCall, changesCall, countsCall, reportCall}
+use Rattle.refile.proofs.CallLaws.{stops, passes, done, first-passes, all-pass, made}
 use Rattle.refile.proofs.AnswerLaws.{short-answer, room-answer}
 
 -- past the house refusals a read answers and leaves what it reads
@@ -42,32 +42,32 @@ pub reads-on : (house : List (Bool × ℕ)) (out : List ℕ) (o : Answered × Li
     → Does o a left → r ≡ result (answeredNumber a) → Calls (call house out (answeredNumber (o .0), o .1)) r left
 reads-on house out o a left r e d q = made e (q ∙ ap (λ (x : Answered). result (answeredNumber x)) (d .answers)) (d .leaves)
 
--- ---- path: 104 after 100
+-- ---- path: 104 after 100 and 106
 
-module _ (s : List ℕ) (i : Id) (number : ℕ) (hash out : List ℕ) (size : length s ≡ storeSize) where
+module _ (s : List ℕ) (i : Id) (number : ℕ) (hash out : List ℕ) (fine : firstThat (lentHouse s) ≡ none) where
   pub path-bad-hash : (r : ℕ) → (length hash ≡ hashSize → ⊥) → r ≡ result (refused 104) → Calls (pathCall s i number hash out) r out
   unfolding pathCall badHash
-  path-bad-hash r ne e = made (good-size out _ s _ size ∙ stops out _ _ 104 [] (ap not (ne-eqb _ _ ne))) e refl
+  path-bad-hash r ne e = made (first-passes out _ _ _ fine ∙ stops out _ _ 104 [] (ap not (ne-eqb _ _ ne))) e refl
 
   pub path-answers : (h : List ℕ) (a : Answered) (left : List ℕ) (r : ℕ) → length hash ≡ hashSize → IsHash hash 0 h
       → Does (readPath (replicaOf s) i (revision number h) out) a left → r ≡ result (answeredNumber a) → Calls (pathCall s i number hash out) r left
   unfolding pathCall badHash part
   path-answers h a left r e k d q =
       let same : h ≡ hash = k .is ∙ take-all 16 hash (omega arith) in
-      reads-on (badReplica s ∷ badHash hash ∷ []) out (readPath (replicaOf s) i (revision number hash) out) a left r
-      (good-size out _ s _ size ∙ (passes out _ _ 104 [] (ap not (eq-eqb _ _ e)) ∙ done out _)) (rw same at d) q
+      reads-on (lentHouse s ++ (badHash hash ∷ [])) out (readPath (replicaOf s) i (revision number hash) out) a left r
+      (first-passes out _ _ _ fine ∙ (passes out _ _ 104 [] (ap not (eq-eqb _ _ e)) ∙ done out _)) (rw same at d) q
 
 -- ---- counts
 
-module _ (s answer : List ℕ) (size : length s ≡ storeSize) where
+module _ (s answer : List ℕ) (fine : firstThat (lentHouse s) ≡ none) where
   pub counts-short : (r : ℕ) → length answer < 8 → r ≡ result (refused 14) → Calls (countsCall s answer) r answer
   unfolding countsCall heldBytes shortAnswer
-  counts-short r h q = made (sized answer _ s size ∙ ap (λ (p : Numbered × List ℕ). (result (p .0), p .1)) (short-answer _ _ _ answer h)) q refl
+  counts-short r h q = made (all-pass answer _ (lentHouse s) fine ∙ ap (λ (p : Numbered × List ℕ). (result (p .0), p .1)) (short-answer _ _ _ answer h)) q refl
 
   pub counts-answer : (h : Held) (left : List ℕ) → 8 ≤ length answer → h ≡ heldIn (replicaOf s) → left ≡ front (heldBytes h) answer → Calls (countsCall s answer) 0 left
   unfolding countsCall heldBytes
   counts-answer h left k e w =
-      made (sized answer _ s size ∙ ap (λ (p : Numbered × List ℕ). (result (p .0), p .1)) (room-answer _ _ _ answer k)) refl
+      made (all-pass answer _ (lentHouse s) fine ∙ ap (λ (p : Numbered × List ℕ). (result (p .0), p .1)) (room-answer _ _ _ answer k)) refl
       (w ∙ ap (λ (x : Held). front (heldBytes x) answer) e)
 
 -- ---- changes
@@ -112,7 +112,7 @@ untouched out (some d) a e ne = go (ltb (length out) (length (d .0))) e
     go true q = refl
     go false q = absurd (ne (changeOf d) q)
 
-module _ (s : List ℕ) (after : ℕ) (out answer : List ℕ) (size : length s ≡ storeSize) where
+module _ (s : List ℕ) (after : ℕ) (out answer : List ℕ) (fine : firstThat (lentHouse s) ≡ none) where
   abbrev next : Option (Id × Document)
   next = firstOf (documentsAfter (record { 0 = after }) (documentsOf s))
 
@@ -128,13 +128,13 @@ module _ (s : List ℕ) (after : ℕ) (out answer : List ℕ) (size : length s �
 
   pub changes-short : (r : ℕ) → length answer < 16 → r ≡ result (maybe (accepted 0) (λ d. shortAnswer) next) → Calls (changesCall s after out answer) r (out, answer)
   unfolding changesCall readChanges
-  changes-short r h e = made (sized (out, answer) _ s size ∙ rw (short-of h next) refl) e refl
+  changes-short r h e = made (all-pass (out, answer) _ (lentHouse s) fine ∙ rw (short-of h next) refl) e refl
 
   -- what was read, with its answer
   answers-as : (a : Changes) (left : List ℕ) → Does (readChanges (replicaOf s) (record { 0 = after }) out) a left
       → changesCall s after out answer ≡ (result (changesAs out answer (a, left) .0), changesAs out answer (a, left) .1)
   unfolding changesCall
-  answers-as a left d = sized (out, answer) _ s size ∙ rw (pair d) refl
+  answers-as a left d = all-pass (out, answer) _ (lentHouse s) fine ∙ rw (pair d) refl
 
   pub changes-next : (a : Changes) (c : Change) (left after-answer : List ℕ) → 16 ≤ length answer → a ≡ changed.Next c
       → Does (readChanges (replicaOf s) (record { 0 = after }) out) a left → after-answer ≡ front (changeBytes c) answer

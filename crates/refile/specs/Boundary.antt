@@ -21,7 +21,7 @@ use Rattle.rules.specs.Answer.{Numbered, accepted, refused, writtenNumber, edit
 use Rattle.rules.specs.Bytes.{be}
 use Rattle.rules.specs.Choice.{pick, maybe, firstThat}
 use Rattle.rules.specs.Edit.{Edit, edit}
-use Rattle.rules.specs.Image.{faults, save}
+use Rattle.rules.specs.Image.{headOf, faults, save}
 use Rattle.rules.specs.Pull.{pull}
 use Rattle.rules.specs.Read.{readWinner, readLeaves, readPath, readMissing, readChanges, heldIn, front}
 use Rattle.rules.specs.Refusal.{refusalNumber}
@@ -53,6 +53,14 @@ SmallPlace (loaded.Refused f place) = place < 4294967296
 -- 100: a replica's buffer of another size
 unfoldable pub badReplica : List ℕ → Bool × ℕ
 badReplica s = (not (eqb (length s) storeSize), 100)
+
+-- 106: a buffer that does not begin as a replica's does: with 0 where an image has its edition
+unfoldable pub badStart : List ℕ → Bool × ℕ
+badStart s = (not (eqb (headOf s .edition) 0), 106)
+
+-- of a buffer that is lent as a replica: what every such call tries first
+unfoldable pub lentHouse : List ℕ → List (Bool × ℕ)
+lentHouse s = badReplica s ∷ badStart s ∷ []
 
 -- 101: a kind of content other than live (1) and deleted (2)
 unfoldable pub badKind : ℕ → Bool × ℕ
@@ -95,11 +103,11 @@ firstHouse (suc n) = some (suc n)
 
 pub record House (house : List (Bool × ℕ)) (n : ℕ) : Type 0 where
   pub first : firstThat house ≡ firstHouse n
-  pub most : n ≤ 105
+  pub most : n ≤ 106
 
--- what a call requires of a replica's buffer: if it has the size of one, it is one
+-- what a call requires of a replica's buffer: if it has the size of one and begins as one, it is one
 abbrev pub Lent : List ℕ → Type 0
-Lent s = length s ≡ storeSize → IsStored s
+Lent s = length s ≡ storeSize → headOf s .edition ≡ 0 → IsStored s
 
 -- 14, of an answer buffer
 unfoldable pub shortAnswer : Numbered
@@ -120,7 +128,7 @@ loadCall s image =
     let o = loadBytes s image (firstThat (faults image)) in call (badReplica s ∷ []) s (loadedNumber (o .0), o .1)
 
 unfoldable pub saveCall : List ℕ → List ℕ → ℕ × List ℕ
-saveCall s out = let o = save (replicaOf s) out in call (badReplica s ∷ []) out (answeredNumber (o .0), o .1)
+saveCall s out = let o = save (replicaOf s) out in call (lentHouse s) out (answeredNumber (o .0), o .1)
 
 abbrev pub contentFrom : ℕ → ℕ → Content
 contentFrom k label = pick (eqb k 1) (Live label) Deleted
@@ -129,7 +137,7 @@ unfoldable pub writeCall : List ℕ → Id → ℕ → List ℕ → ℕ → ℕ 
 writeCall s i number path kind label =
     let w : Write = record { id = i; number = record { 0 = number }; path = path; content = contentFrom kind label } in
     let o = write (replicaOf s) w in
-    call (badReplica s ∷ badKind kind ∷ badLabel kind label ∷ []) s (writtenNumber (o .0), stored (o .1))
+    call (lentHouse s ++ (badKind kind ∷ badLabel kind label ∷ [])) s (writtenNumber (o .0), stored (o .1))
 
 -- 104 of a parent that is named, else 105
 unfoldable pub parentHouse : ℕ → ℕ → List ℕ → Bool × ℕ
@@ -158,22 +166,22 @@ editCall s i hash kind label named number parent =
       parent = parentFrom named (revision number parent);
     } in
     let o = edit (replicaOf s) e in
-    call (badReplica s ∷ editHouse hash kind label named number parent) s (editedNumber (o .0), stored (o .1))
+    call (lentHouse s ++ editHouse hash kind label named number parent) s (editedNumber (o .0), stored (o .1))
 
 unfoldable pub winnerCall : List ℕ → Id → List ℕ → ℕ × List ℕ
-winnerCall s i out = let o = readWinner (replicaOf s) i out in call (badReplica s ∷ []) out (answeredNumber (o .0), o .1)
+winnerCall s i out = let o = readWinner (replicaOf s) i out in call (lentHouse s) out (answeredNumber (o .0), o .1)
 
 unfoldable pub leavesCall : List ℕ → Id → List ℕ → ℕ × List ℕ
-leavesCall s i out = let o = readLeaves (replicaOf s) i out in call (badReplica s ∷ []) out (answeredNumber (o .0), o .1)
+leavesCall s i out = let o = readLeaves (replicaOf s) i out in call (lentHouse s) out (answeredNumber (o .0), o .1)
 
 unfoldable pub pathCall : List ℕ → Id → ℕ → List ℕ → List ℕ → ℕ × List ℕ
 pathCall s i number hash out =
     let o = readPath (replicaOf s) i (revision number hash) out in
-    call (badReplica s ∷ badHash hash ∷ []) out (answeredNumber (o .0), o .1)
+    call (lentHouse s ++ (badHash hash ∷ [])) out (answeredNumber (o .0), o .1)
 
 unfoldable pub missingCall : List ℕ → Id → List ℕ → List ℕ → ℕ × List ℕ
 missingCall s i asked out =
-    let o = readMissing (replicaOf s) i asked out in call (badReplica s ∷ []) out (answeredNumber (o .0), o .1)
+    let o = readMissing (replicaOf s) i asked out in call (lentHouse s) out (answeredNumber (o .0), o .1)
 
 abbrev pub flagNumber : Bool → ℕ
 flagNumber false = 0
@@ -193,7 +201,7 @@ changesAs out answer (changes.Refused n, left) = (changesNumber (changes.Refused
 
 unfoldable pub changesCall : List ℕ → ℕ → List ℕ → List ℕ → ℕ × (List ℕ × List ℕ)
 changesCall s after out answer =
-    call (badReplica s ∷ []) (out, answer) (changesAs out answer (readChanges (replicaOf s) (record { 0 = after }) out))
+    call (lentHouse s) (out, answer) (changesAs out answer (readChanges (replicaOf s) (record { 0 = after }) out))
 
 unfoldable pub countBytes : Counts → List ℕ
 countBytes c = numbers (c .changed ∷ c .unchanged ∷ c .refused ∷ [])
@@ -202,12 +210,12 @@ countBytes c = numbers (c .changed ∷ c .unchanged ∷ c .refused ∷ [])
 unfoldable pub pullCall : List ℕ → List ℕ → ℕ → List ℕ → ℕ × (List ℕ × List ℕ)
 pullCall target source after answer =
     let o = pull (record { 0 = after }) (replicaOf source) (replicaOf target) in
-    call (badReplica target ∷ badReplica source ∷ []) (target, answer)
+    call (lentHouse target ++ lentHouse source) (target, answer)
     (pick (ltb (length answer) (length (countBytes (o .0)))) (shortAnswer, (target, answer))
     (accepted 0, (stored (o .1), front (countBytes (o .0)) answer)))
 
 unfoldable pub sequenceCall : List ℕ → ℕ
-sequenceCall s = call {L = Unit {0}} (badReplica s ∷ []) tt (accepted (replicaOf s .seq .0), tt) .0
+sequenceCall s = call {L = Unit {0}} (lentHouse s) tt (accepted (replicaOf s .seq .0), tt) .0
 
 unfoldable pub heldBytes : Held → List ℕ
 heldBytes h = numbers (h .documents ∷ h .revisions ∷ [])
@@ -215,8 +223,24 @@ heldBytes h = numbers (h .documents ∷ h .revisions ∷ [])
 unfoldable pub countsCall : List ℕ → List ℕ → ℕ × List ℕ
 countsCall s answer =
     let bytes = heldBytes (heldIn (replicaOf s)) in
-    call (badReplica s ∷ []) answer
+    call (lentHouse s) answer
     (pick (ltb (length answer) (length bytes)) (shortAnswer, answer) (accepted 0, front bytes answer))
 
 unfoldable pub reportCall : List ℕ → List ℕ → ℕ × List ℕ
 reportCall image out = let o = readReport image out in (result (answeredNumber (o .0)), o .1)
+
+-- ---- the calls that ask
+
+-- 1 exactly if it is so, else 0
+pub record Says (so : Type 0) (r : ℕ) : Type 0 where
+  pub yes : r ≡ 1 → so
+  pub always : so → r ≡ 1
+  pub most : r ≤ 1
+
+-- a version as one number: three digits for the minor part, three for the patch
+abbrev pub versionOf : ℕ → ℕ → ℕ → ℕ
+versionOf major minor patch = major * 1000000 + minor * 1000 + patch
+
+-- 0.2.0
+abbrev pub version : ℕ
+version = versionOf 0 2 0

@@ -20,10 +20,10 @@ valueIn r = pick (leb 9223372036854775808 r) (r % 4294967296) r
 abbrev pub decode : ℕ → Numbered
 decode r = record { refusal = refusalIn r; value = valueIn r }
 
--- an answer below 2^63; of a refusal a number of 1 to 105, and a place in the lower half
+-- an answer below 2^63; of a refusal a number of 1 to 106, and a place in the lower half
 abbrev pub RangeOf : ℕ → ℕ → Type 0
 RangeOf zero v = v < 9223372036854775808
-RangeOf (suc n) v = (suc n ≤ 105) × (v < 4294967296)
+RangeOf (suc n) v = (suc n ≤ 106) × (v < 4294967296)
 
 abbrev pub InRange : Numbered → Type 0
 InRange n = RangeOf (n .refusal) (n .value)

@@ -10,6 +10,7 @@ use crate::number::DELETED;
 use crate::number::LIVE;
 use crate::number::SHORT_ANSWER;
 use crate::number::answered;
+use crate::number::bad_replica;
 use crate::number::content_from;
 use crate::number::edited;
 use crate::number::loaded;
@@ -64,8 +65,9 @@ pub extern "C" fn refile_save(replica: &[u8], out: &mut [u8]) -> u64
     requires { ⌜ Lent (now replica) ⌝ }
     ensures { λ r. ⌜ Calls (saveCall (now (replica .entry)) (now (out .entry))) r (now (out .exit)) ⌝ }
 {
-    if replica.len() != SIZE {
-        return refused(BAD_REPLICA);
+    let lent = bad_replica(replica);
+    if lent != 0 {
+        return refused(lent);
     }
     answered(save(replica, out))
 }
@@ -98,8 +100,9 @@ pub extern "C" fn refile_write(
     requires { ⌜ Lent (now replica) ⌝ }
     ensures { λ r. ⌜ Keeps (writeCall (now (replica .entry)) (now (id .entry)) number (now (path .entry)) kind label) r (now (replica .exit)) (now (replica .exit)) ⌝ }
 {
-    if replica.len() != SIZE {
-        return refused(BAD_REPLICA);
+    let lent = bad_replica(replica);
+    if lent != 0 {
+        return refused(lent);
     }
     let house = bad_content(kind, label);
     if house != 0 {
@@ -175,8 +178,9 @@ pub extern "C" fn refile_edit(
     requires { ⌜ Lent (now replica) ⌝ }
     ensures { λ r. ⌜ Keeps (editCall (now (replica .entry)) (now (id .entry)) (now (hash .entry)) kind label named number (now (parent .entry))) r (now (replica .exit)) (now (replica .exit)) ⌝ }
 {
-    if replica.len() != SIZE {
-        return refused(BAD_REPLICA);
+    let lent = bad_replica(replica);
+    if lent != 0 {
+        return refused(lent);
     }
     let house = bad_edit(hash, kind, label, named, number, parent);
     if house != 0 {
@@ -198,11 +202,13 @@ pub extern "C" fn refile_pull(
     requires { ⌜ Lent (now target) × Lent (now source) ⌝ }
     ensures { λ r. ⌜ Keeps (pullCall (now (target .entry)) (now (source .entry)) after (now (answer .entry))) r (now (target .exit), now (answer .exit)) (now (target .exit)) ⌝ }
 {
-    if target.len() != SIZE {
-        return refused(BAD_REPLICA);
+    let lent = bad_replica(target);
+    if lent != 0 {
+        return refused(lent);
     }
-    if source.len() != SIZE {
-        return refused(BAD_REPLICA);
+    let read = bad_replica(source);
+    if read != 0 {
+        return refused(read);
     }
     if answer.len() < COUNTS {
         return refused(SHORT_ANSWER);

@@ -1,7 +1,8 @@
 // Refile: what a service links. Each function checks what only this boundary can get, calls the proved
 // library, and turns its answer into one number. include/refile.h documents every call.
-// It uses every crate below, and no crate uses it.
+// It uses every crate below; above it stands only demands, which has theorems about these calls and no code.
+mod about;
 mod answer;
-mod change;
+pub mod change;
 mod number;
-mod read;
+pub mod read;

@@ -1,4 +1,5 @@
 // One number for each outcome.
+use octets::number::get2;
 use rules::Answered;
 use rules::Content;
 use rules::Edited;
@@ -7,11 +8,12 @@ use rules::Loaded;
 use rules::Outcome;
 use rules::Refusal;
 use rules::Written;
+use store::SIZE;
 ghost use mathlib.Core.Path.{_≡_};
 ghost use Prim.Native.Nat.{_+_, _*_, _≤_};
 ghost use Rattle.rules.specs.Answer.{refused, writtenNumber, editedNumber, answeredNumber, loadedNumber};
 ghost use Rattle.rules.specs.Refusal.{refusalNumber, faultNumber};
-ghost use Rattle.refile.specs.Boundary.{result, contentFrom, SmallPlace};
+ghost use Rattle.refile.specs.Boundary.{result, contentFrom, SmallPlace, House, lentHouse};
 
 // The house refusals: what this boundary can get and the rules have no number for.
 pub(crate) const BAD_REPLICA: u64 = 100;
@@ -26,6 +28,8 @@ pub(crate) const BAD_HASH: u64 = 104;
 
 pub(crate) const BAD_NO_PARENT: u64 = 105;
 
+const BAD_START: u64 = 106;
+
 // The kinds of content, as in an image row.
 pub(crate) const LIVE: u32 = 1;
 
@@ -33,6 +37,19 @@ pub(crate) const DELETED: u32 = 2;
 
 // An answer buffer that is too short.
 pub(crate) const SHORT_ANSWER: u64 = 14;
+
+// The house refusal of a buffer that is lent as a replica, 0 if there is none.
+pub(crate) fn bad_replica(replica: &[u8]) -> u64
+    ensures { λ n. ⌜ House (lentHouse (now (replica .entry))) n ⌝ }
+{
+    if replica.len() != SIZE {
+        return BAD_REPLICA;
+    }
+    if get2(replica, 0) != 0 {
+        return BAD_START;
+    }
+    0
+}
 
 pub(crate) fn refusal_number(r: Refusal) -> u64
     ensures { λ n. ⌜ (n ≡ refusalNumber r) × (1 ≤ n) × (n ≤ 15) ⌝ }
@@ -72,7 +89,7 @@ fn fault_number(f: Fault) -> u64
 
 // A refusal with no place.
 pub(crate) fn refused(n: u64) -> u64
-    requires { ⌜ (1 ≤ n) × (n ≤ 105) ⌝ }
+    requires { ⌜ (1 ≤ n) × (n ≤ 106) ⌝ }
     ensures { λ r. ⌜ r ≡ result (refused n) ⌝ }
 {
     9223372036854775808 + n * 4294967296

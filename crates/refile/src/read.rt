@@ -1,9 +1,9 @@
 // The calls that read: each leaves the replica as it was.
 use crate::answer::put_numbers;
 use crate::number::BAD_HASH;
-use crate::number::BAD_REPLICA;
 use crate::number::SHORT_ANSWER;
 use crate::number::answered;
+use crate::number::bad_replica;
 use crate::number::refusal_number;
 use crate::number::refused;
 use octets::run::get_hash;
@@ -11,7 +11,6 @@ use reads::document::leaves;
 use reads::document::missing;
 use reads::document::path;
 use reads::document::winner;
-use reads::replica::Next;
 use reads::replica::changes;
 use reads::replica::counts;
 use reads::replica::next_after;
@@ -19,10 +18,10 @@ use reads::replica::sequence;
 use report::report;
 use rules::Change;
 use rules::Changes;
+use rules::Next;
 use rules::RevNumber;
 use rules::Revision;
 use rules::Seq;
-use store::SIZE;
 ghost use mathlib.Core.Path.{_≡_};
 ghost use Prim.Native.Nat.{_≤_};
 ghost use lib.ListN.{length};
@@ -45,8 +44,9 @@ pub extern "C" fn refile_winner(replica: &[u8], id: &[u8], out: &mut [u8]) -> u6
     requires { ⌜ Lent (now replica) ⌝ }
     ensures { λ r. ⌜ Calls (winnerCall (now (replica .entry)) (now (id .entry)) (now (out .entry))) r (now (out .exit)) ⌝ }
 {
-    if replica.len() != SIZE {
-        return refused(BAD_REPLICA);
+    let lent = bad_replica(replica);
+    if lent != 0 {
+        return refused(lent);
     }
     answered(winner(replica, id, out))
 }
@@ -56,8 +56,9 @@ pub extern "C" fn refile_leaves(replica: &[u8], id: &[u8], out: &mut [u8]) -> u6
     requires { ⌜ Lent (now replica) ⌝ }
     ensures { λ r. ⌜ Calls (leavesCall (now (replica .entry)) (now (id .entry)) (now (out .entry))) r (now (out .exit)) ⌝ }
 {
-    if replica.len() != SIZE {
-        return refused(BAD_REPLICA);
+    let lent = bad_replica(replica);
+    if lent != 0 {
+        return refused(lent);
     }
     answered(leaves(replica, id, out))
 }
@@ -73,8 +74,9 @@ pub extern "C" fn refile_path(
     requires { ⌜ Lent (now replica) ⌝ }
     ensures { λ r. ⌜ Calls (pathCall (now (replica .entry)) (now (id .entry)) number (now (hash .entry)) (now (out .entry))) r (now (out .exit)) ⌝ }
 {
-    if replica.len() != SIZE {
-        return refused(BAD_REPLICA);
+    let lent = bad_replica(replica);
+    if lent != 0 {
+        return refused(lent);
     }
     if hash.len() != HASH {
         return refused(BAD_HASH);
@@ -91,8 +93,9 @@ pub extern "C" fn refile_missing(replica: &[u8], id: &[u8], asked: &[u8], out: &
     requires { ⌜ Lent (now replica) ⌝ }
     ensures { λ r. ⌜ Calls (missingCall (now (replica .entry)) (now (id .entry)) (now (asked .entry)) (now (out .entry))) r (now (out .exit)) ⌝ }
 {
-    if replica.len() != SIZE {
-        return refused(BAD_REPLICA);
+    let lent = bad_replica(replica);
+    if lent != 0 {
+        return refused(lent);
     }
     answered(missing(replica, id, asked, out))
 }
@@ -102,8 +105,9 @@ pub extern "C" fn refile_update_sequence(replica: &[u8]) -> u64
     requires { ⌜ Lent (now replica) ⌝ }
     ensures { λ r. ⌜ r ≡ sequenceCall (now (replica .entry)) ⌝ }
 {
-    if replica.len() != SIZE {
-        return refused(BAD_REPLICA);
+    let lent = bad_replica(replica);
+    if lent != 0 {
+        return refused(lent);
     }
     let q = sequence(replica);
     q.0 as u64
@@ -114,8 +118,9 @@ pub extern "C" fn refile_counts(replica: &[u8], answer: &mut [u8]) -> u64
     requires { ⌜ Lent (now replica) ⌝ }
     ensures { λ r. ⌜ Calls (countsCall (now (replica .entry)) (now (answer .entry))) r (now (answer .exit)) ⌝ }
 {
-    if replica.len() != SIZE {
-        return refused(BAD_REPLICA);
+    let lent = bad_replica(replica);
+    if lent != 0 {
+        return refused(lent);
     }
     if answer.len() < COUNTS {
         return refused(SHORT_ANSWER);
@@ -164,8 +169,9 @@ pub extern "C" fn refile_changes(
     requires { ⌜ Lent (now replica) ⌝ }
     ensures { λ r. ⌜ Calls (changesCall (now (replica .entry)) after (now (out .entry)) (now (answer .entry))) r (now (out .exit), now (answer .exit)) ⌝ }
 {
-    if replica.len() != SIZE {
-        return refused(BAD_REPLICA);
+    let lent = bad_replica(replica);
+    if lent != 0 {
+        return refused(lent);
     }
     if answer.len() < CHANGES {
         return short_changes(replica, Seq(after));

@@ -1,9 +1,10 @@
 -- `save` meets its contract. Assumes nothing.
-use mathlib.Core.Path.{refl}
+use mathlib.Core.Path.{refl, ap, _∙_}
 use native.Mathlib.Omega.{arith}
 use borrow.Author.Needs.{needs}
+use Rattle.octets.specs.Splice.{splice}
 use Rattle.store.proofs.FitLaws.{stored-laid}
-use Rattle.codec.proofs.SaveLaws.{saved-length, save-short, save-written}
+use Rattle.codec.proofs.SaveLaws.{image-from, can-write, saved-length, save-short, save-written}
 use Rattle.codec.proofs.save.Statement.{statement}
 use Rattle.codec.proofs.save.Tie as tie
 
@@ -30,19 +31,16 @@ returns c =
     save-short _ _ _ (saved-length _ _ _ _ ((c .before .before .before .before .before) .pre) ((c .before .before .documents-held) .ensures) ((c .before .revisions-held) .ensures) refl) (omega (arith, (c .if1) .taken))
 
 write-image-requires : tie.Need-write-image-requires
-write-image-requires c κs = record {
-  replica = (c .before .before .before .before .before .before) .pre;
-  documents = (c .before .before .before .documents-held) .ensures;
-  revisions = (c .before .before .revisions-held) .ensures;
-  room = omega (arith, (c .before .if1) .left);
-}
+write-image-requires c κs =
+    can-write _ _ _ _ ((c .before .before .before .before .before .before) .pre) ((c .before .before .before .documents-held) .ensures) ((c .before .before .revisions-held) .ensures) (omega (arith, (c .before .if1) .left))
 
 same-length : tie.Need-same-length
 same-length c = search needs
 
 returns-2 : tie.Need-returns-2
 returns-2 c =
-    save-written _ _ _ (saved-length _ _ _ _ ((c .before .before .before .before .before .before .before .before .before) .pre) ((c .before .before .before .before .before .before .documents-held) .ensures) ((c .before .before .before .before .before .revisions-held) .ensures) refl) _ (omega (arith, (c .before .before .before .before .if1) .left)) ((c .before .before .write-image) .ensures)
+    save-written _ _ _ (saved-length _ _ _ _ ((c .before .before .before .before .before .before .before .before .before) .pre) ((c .before .before .before .before .before .before .documents-held) .ensures) ((c .before .before .before .before .before .revisions-held) .ensures) refl) _ (omega (arith, (c .before .before .before .before .if1) .left))
+    ((c .before .before .write-image) .ensures ∙ ap (splice _ 0) (image-from _ _ _ ((c .before .before .before .before .before .before .before .before .before) .pre) ((c .before .before .before .before .before .before .documents-held) .ensures) ((c .before .before .before .before .before .revisions-held) .ensures)))
 
 pub save-spec : {M : Type 1} → statement M
 save-spec =

@@ -1,6 +1,7 @@
 -- `take_in` meets its contract. Assumes nothing.
 use mathlib.Core.Path.{refl}
 use native.Mathlib.Omega.{arith}
+use lib.ListN.{length-take, length-drop}
 use Rattle.rules.specs.Bytes.{value, part}
 use Rattle.codec.proofs.TakeLaws.{bytes-all, stands, taken}
 use borrow.Author.Needs.{needs}
@@ -9,9 +10,9 @@ use Rattle.codec.proofs.take_in.Tie as tie
 
 get2-requires : tie.Need-get2-requires
 get2-requires c κs =
-    let s = (c .before .before) .args .image .now in
-    let p = bytes-all s (λ i. omega (arith, (c .shared-slice-known) .given i)) in
-    let t = stands s p ((c .before .before) .pre .fine) (value (part 2 2 s)) refl in
+    let s = c .before .before .args .image .now in
+    let p = bytes-all s (λ i. omega (arith, c .shared-slice-known .given i)) in
+    let t = stands s p (c .before .before .pre .fine) (value (part 2 2 s)) refl in
     omega arith
 
 mul-rows : tie.Need-mul-rows
@@ -20,65 +21,38 @@ mul-rows c = search needs
 add-rows : tie.Need-add-rows
 add-rows c = search needs
 
-clear-requires : tie.Need-clear-requires
-clear-requires c κs = search needs
-
-sub-copy-in : tie.Need-sub-copy-in
-sub-copy-in c = search needs
-
-part-copy-in-start : tie.Need-part-copy-in-start
-part-copy-in-start c = search needs
-
-part-copy-in-end : tie.Need-part-copy-in-end
-part-copy-in-end c =
-    let s = (c .before .before .before .before .before .before .before .before) .args .image .now in
-    let p = bytes-all s (λ i. omega (arith, (c .before .before .before .before .before .before .shared-slice-known) .given i)) in
-    let t = stands s p ((c .before .before .before .before .before .before .before .before) .pre .fine) ((c .before .before .before .before .before .get2) .result) ((c .before .before .before .before .before .get2) .ensures .is) in
+sub-lay-out : tie.Need-sub-lay-out
+sub-lay-out c =
+    let s = c .before .before .before .before .args .image .now in
+    let p = bytes-all s (λ i. omega (arith, c .before .before .shared-slice-known .given i)) in
+    let t = stands s p (c .before .before .before .before .pre .fine) (c .before .get2 .result) (c .before .get2 .ensures .is) in
     omega arith
 
-copy-in-requires : tie.Need-copy-in-requires
-copy-in-requires c κs = search needs
-
-copy-entries-requires : tie.Need-copy-entries-requires
-copy-entries-requires c κs =
-    let s = (c .before .before .before .before .before .before .before .before .before .before .before .before .before) .args .image .now in
-    let p = bytes-all s (λ i. omega (arith, (c .before .before .before .before .before .before .before .before .before .before .before .shared-slice-known) .given i)) in
-    let t = stands s p ((c .before .before .before .before .before .before .before .before .before .before .before .before .before) .pre .fine) ((c .before .before .before .before .before .before .before .before .before .before .get2) .result) ((c .before .before .before .before .before .before .before .before .before .before .get2) .ensures .is) in
-    record { most = t .documents; room = omega arith; there = omega arith; low = omega arith; short = omega arith }
-
-sub-copy-in-2 : tie.Need-sub-copy-in-2
-sub-copy-in-2 c =
-    let s = (c .before .before .before .before .before .before .before .before .before .before .before .before .before .before .before .before .before) .args .image .now in
-    let p = bytes-all s (λ i. omega (arith, (c .before .before .before .before .before .before .before .before .before .before .before .before .before .before .before .shared-slice-known) .given i)) in
-    let t = stands s p ((c .before .before .before .before .before .before .before .before .before .before .before .before .before .before .before .before .before) .pre .fine) ((c .before .before .before .before .before .before .before .before .before .before .before .before .before .before .get2) .result) ((c .before .before .before .before .before .before .before .before .before .before .before .before .before .before .get2) .ensures .is) in
+part-lay-out-start : tie.Need-part-lay-out-start
+part-lay-out-start c =
+    let s = c .before .before .before .before .args .image .now in
+    let p = bytes-all s (λ i. omega (arith, c .before .before .shared-slice-known .given i)) in
+    let t = stands s p (c .before .before .before .before .pre .fine) (c .before .get2 .result) (c .before .get2 .ensures .is) in
     omega arith
 
-part-copy-in-start-2 : tie.Need-part-copy-in-start-2
-part-copy-in-start-2 c =
-    let s = (c .before .before .before .before .before .before .before .before .before .before .before .before .before .before .before .before .before) .args .image .now in
-    let p = bytes-all s (λ i. omega (arith, (c .before .before .before .before .before .before .before .before .before .before .before .before .before .before .before .shared-slice-known) .given i)) in
-    let t = stands s p ((c .before .before .before .before .before .before .before .before .before .before .before .before .before .before .before .before .before) .pre .fine) ((c .before .before .before .before .before .before .before .before .before .before .before .before .before .before .get2) .result) ((c .before .before .before .before .before .before .before .before .before .before .before .before .before .before .get2) .ensures .is) in
-    omega arith
+part-lay-out-end : tie.Need-part-lay-out-end
+part-lay-out-end c = search needs
 
-part-copy-in-end-2 : tie.Need-part-copy-in-end-2
-part-copy-in-end-2 c = search needs
-
-copy-in-requires-2 : tie.Need-copy-in-requires-2
-copy-in-requires-2 c κs =
-    let s = (c .before .before .before .before .before .before .before .before .before .before .before .before .before .before .before .before .before .before) .args .image .now in
-    let p = bytes-all s (λ i. omega (arith, (c .before .before .before .before .before .before .before .before .before .before .before .before .before .before .before .before .shared-slice-known) .given i)) in
-    let t = stands s p ((c .before .before .before .before .before .before .before .before .before .before .before .before .before .before .before .before .before .before) .pre .fine) ((c .before .before .before .before .before .before .before .before .before .before .before .before .before .before .before .get2) .result) ((c .before .before .before .before .before .before .before .before .before .before .before .before .before .before .before .get2) .ensures .is) in
-    omega arith
+lay-out-requires : tie.Need-lay-out-requires
+lay-out-requires c κs =
+    let s = c .before .before .before .before .before .args .image .now in
+    let p = bytes-all s (λ i. omega (arith, c .before .before .before .shared-slice-known .given i)) in
+    let t = stands s p (c .before .before .before .before .before .pre .fine) (c .before .before .get2 .result) (c .before .before .get2 .ensures .is) in
+    record { size = c .before .before .before .before .before .pre .size; most = t .documents; there = omega arith; fit = simp (length-take, length-drop) (omega arith) }
 
 same-length : tie.Need-same-length
 same-length c = search needs
 
 returns : tie.Need-returns
-unfolding part
 returns c =
-    let s = (c .before .before .before .before .before .before .before .before .before .before .before .before .before .before .before .before .before .before .before .before .before) .args .image .now in
-    let p = bytes-all s (λ i. omega (arith, (c .before .before .before .before .before .before .before .before .before .before .before .before .before .before .before .before .before .before .before .shared-slice-known) .given i)) in
-    taken s p ((c .before .before .before .before .before .before .before .before .before .before .before .before .before .before .before .before .before .before .before .before .before) .pre .fine) ((c .before .before .before .before .before .before .before .before .before .before .before .before .before .before .before .before .before .before .get2) .result) ((c .before .before .before .before .before .before .before .before .before .before .before .before .before .before .before .before .before .before .get2) .ensures .is) _ _ _ _ _ ((c .before .before .before .before .before .before .before .before .before .before .before .before .before .before .before .before .before .before .before .before .before) .pre .size) ((c .before .before .before .before .before .before .before .before .before .before .before .before .before .before .before .before .clear) .ensures) ((c .before .before .before .before .before .before .before .before .before .before .before .copy-in) .ensures) ((c .before .before .before .before .before .before .before .copy-entries) .ensures) ((c .before .before .copy-in2) .ensures)
+    let s = c .before .before .before .before .before .before .before .before .args .image .now in
+    let p = bytes-all s (λ i. omega (arith, c .before .before .before .before .before .before .shared-slice-known .given i)) in
+    taken s p (c .before .before .before .before .before .before .before .before .pre .fine) (c .before .before .before .before .before .get2 .result) (c .before .before .before .before .before .get2 .ensures .is) _ (c .before .before .lay-out .ensures)
 
 pub take-in-spec : {M : Type 1} → statement M
 take-in-spec =
@@ -87,15 +61,9 @@ take-in-spec =
     get2-requires
     mul-rows
     add-rows
-    clear-requires
-    sub-copy-in
-    part-copy-in-start
-    part-copy-in-end
-    copy-in-requires
-    copy-entries-requires
-    sub-copy-in-2
-    part-copy-in-start-2
-    part-copy-in-end-2
-    copy-in-requires-2
+    sub-lay-out
+    part-lay-out-start
+    part-lay-out-end
+    lay-out-requires
     same-length
     returns)

@@ -2,7 +2,7 @@
 use mathlib.Core.Path.{refl}
 use native.Mathlib.Omega.{arith}
 use borrow.Author.Needs.{needs}
-use Rattle.codec.proofs.SaveLaws.{fitting, image-written}
+use Rattle.codec.proofs.SaveLaws.{parts-written}
 use Rattle.codec.proofs.write_image.Statement.{statement}
 use Rattle.codec.proofs.write_image.Tie as tie
 
@@ -28,7 +28,7 @@ part-copy-in-start : tie.Need-part-copy-in-start
 part-copy-in-start c = search needs
 
 part-copy-in-end : tie.Need-part-copy-in-end
-part-copy-in-end c = let q = fitting _ _ _ _ ((c .before .before .before .before .before .before .before) .pre) in omega arith
+part-copy-in-end c = let q = (c .before .before .before .before .before .before .before) .pre in omega arith
 
 copy-in-requires : tie.Need-copy-in-requires
 copy-in-requires c κs = search needs
@@ -47,7 +47,7 @@ put4-requires c κs = search needs
 
 copy-entries-requires : tie.Need-copy-entries-requires
 copy-entries-requires c κs =
-    let q = fitting _ _ _ _ ((c .before .before .before .before .before .before .before .before .before .before .before .before .before .before .before .before) .pre) in
+    let q = (c .before .before .before .before .before .before .before .before .before .before .before .before .before .before .before .before) .pre in
     record { most = q .documents; room = omega arith; there = omega arith; low = omega arith; short = omega arith }
 
 sub-copy-in-2 : tie.Need-sub-copy-in-2
@@ -57,7 +57,7 @@ part-copy-in-start-2 : tie.Need-part-copy-in-start-2
 part-copy-in-start-2 c = search needs
 
 part-copy-in-end-2 : tie.Need-part-copy-in-end-2
-part-copy-in-end-2 c = let q = fitting _ _ _ _ ((c .before .before .before .before .before .before .before .before .before .before .before .before .before .before .before .before .before .before .before .before) .pre) in omega arith
+part-copy-in-end-2 c = let q = (c .before .before .before .before .before .before .before .before .before .before .before .before .before .before .before .before .before .before .before .before) .pre in omega arith
 
 copy-in-requires-2 : tie.Need-copy-in-requires-2
 copy-in-requires-2 c κs = search needs
@@ -68,7 +68,7 @@ same-length c = search needs
 returns : tie.Need-returns
 returns c =
     let a = (c .before .before .before .before .before .before .before .before .before .before .before .before .before .before .before .before .before .before .before .before .before .before .before .before) .args in
-    image-written _ _ _ _ _ _ _ (a .d) (a .r) _ _ _ ((c .before .before .before .before .before .before .before .before .before .before .before .before .before .before .before .before .before .before .before .before .before .before .before .before) .pre) refl refl refl ((c .before .before .before .before .before .before .before .before .before .before .before .before .before .before .before .before .before .before .before .before .put2) .ensures) ((c .before .before .before .before .before .before .before .before .before .before .before .before .before .before .before .copy-in) .ensures) ((c .before .before .before .before .before .before .before .before .before .before .before .put4) .ensures .is) ((c .before .before .before .before .before .before .before .copy-entries) .ensures) ((c .before .before .copy-in2) .ensures)
+    parts-written _ _ _ _ _ _ _ (a .d) (a .r) _ _ _ ((c .before .before .before .before .before .before .before .before .before .before .before .before .before .before .before .before .before .before .before .before .before .before .before .before) .pre) refl refl refl ((c .before .before .before .before .before .before .before .before .before .before .before .before .before .before .before .before .before .before .before .before .put2) .ensures) ((c .before .before .before .before .before .before .before .before .before .before .before .before .before .before .before .copy-in) .ensures) ((c .before .before .before .before .before .before .before .before .before .before .before .put4) .ensures .is) ((c .before .before .before .before .before .before .before .copy-entries) .ensures) ((c .before .before .copy-in2) .ensures)
 
 pub write-image-spec : {M : Type 1} → statement M
 write-image-spec =

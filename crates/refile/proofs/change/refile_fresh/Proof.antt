@@ -1,6 +1,5 @@
 -- `refile_fresh` meets its contract. Assumes nothing.
 use mathlib.Core.Path.{refl}
-use mathlib.Core.List.{[]}
 use Rattle.refile.specs.Boundary.{freshCall}
 use Rattle.refile.proofs.CallLaws.{bad-size, sized, made, refuses, accepts}
 use Rattle.refile.proofs.ChangeLaws.{fresh-stands}
@@ -14,7 +13,7 @@ refused-requires c κs = search needs
 
 returns : tie.Need-returns
 unfolding freshCall
-returns c = refuses 100 (bad-size _ _ _ [] (c .before .if1 .taken)) (λ e. omega arith) (c .refused .ensures) refl
+returns c = refuses 100 (bad-size _ _ _ (c .before .if1 .taken)) (λ e. omega arith) (c .refused .ensures) refl
 
 make-fresh-requires : tie.Need-make-fresh-requires
 make-fresh-requires c κs = search needs

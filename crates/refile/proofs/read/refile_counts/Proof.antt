@@ -1,28 +1,30 @@
 -- `refile_counts` meets its contract. Assumes nothing.
 use mathlib.Core.Path.{refl}
-use mathlib.Core.List.{[]}
 use borrow.Author.Needs.{needs}
 use Rattle.refile.specs.Boundary.{heldBytes, countsCall}
-use Rattle.refile.proofs.CallLaws.{bad-size, made}
+use Rattle.refile.proofs.CallLaws.{house-stops, none-first, lent-stands, made}
 use Rattle.refile.proofs.ReadCallLaws.{counts-short, counts-answer}
 use Rattle.refile.proofs.read.refile_counts.Statement.{statement}
 use Rattle.refile.proofs.read.refile_counts.Tie as tie
+
+bad-replica-requires : tie.Need-bad-replica-requires
+bad-replica-requires c κs = search needs
 
 refused-requires : tie.Need-refused-requires
 refused-requires c κs = search needs
 
 returns : tie.Need-returns
 unfolding countsCall
-returns c = made (bad-size _ _ _ [] (c .before .if1 .taken)) (c .refused .ensures) refl
+returns c = made (house-stops _ _ _ _ (c .before .before .bad-replica .ensures) (c .before .if1 .taken)) (c .refused .ensures) refl
 
 refused-requires-2 : tie.Need-refused-requires-2
 refused-requires-2 c κs = search needs
 
 returns-2 : tie.Need-returns-2
-returns-2 c = counts-short _ _ (c .before .before .if1 .left) _ (c .before .if2 .taken) (c .refused2 .ensures)
+returns-2 c = counts-short _ _ (none-first _ _ (c .before .before .before .bad-replica .ensures) (c .before .before .if1 .left)) _ (c .before .if2 .taken) (c .refused2 .ensures)
 
 counts-requires : tie.Need-counts-requires
-counts-requires c κs = c .before .before .before .before .pre (c .before .if1 .left)
+counts-requires c κs = lent-stands _ (none-first _ _ (c .before .before .bad-replica .ensures) (c .before .if1 .left)) (c .before .before .before .before .before .pre)
 
 slice-aggregate-put-numbers : tie.Need-slice-aggregate-put-numbers
 slice-aggregate-put-numbers c = search needs
@@ -35,12 +37,13 @@ same-length c = search needs
 
 returns-3 : tie.Need-returns-3
 unfolding heldBytes
-returns-3 c = counts-answer _ _ (c .before .before .before .before .before .before .before .if1 .left) _ _ (c .before .before .before .before .before .before .if2 .left) (c .before .before .before .before .before .counts .ensures) (c .before .before .put-numbers .ensures)
+returns-3 c = counts-answer _ _ (none-first _ _ (c .before .before .before .before .before .before .before .before .bad-replica .ensures) (c .before .before .before .before .before .before .before .if1 .left)) _ _ (c .before .before .before .before .before .before .if2 .left) (c .before .before .before .before .before .counts .ensures) (c .before .before .put-numbers .ensures)
 
 pub refile-counts-spec : {M : Type 1} → statement M
 refile-counts-spec =
     tie.close
     (tie.spec
+    bad-replica-requires
     refused-requires
     returns
     refused-requires-2

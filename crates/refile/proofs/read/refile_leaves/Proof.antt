@@ -1,22 +1,24 @@
 -- `refile_leaves` meets its contract. Assumes nothing.
 use mathlib.Core.Path.{refl}
-use mathlib.Core.List.{[]}
 use borrow.Author.Needs.{needs}
 use Rattle.refile.specs.Boundary.{leavesCall}
-use Rattle.refile.proofs.CallLaws.{bad-size, sized, made}
+use Rattle.refile.proofs.CallLaws.{house-stops, house-passes, none-first, lent-stands, made}
 use Rattle.refile.proofs.ReadCallLaws.{reads-on}
 use Rattle.refile.proofs.read.refile_leaves.Statement.{statement}
 use Rattle.refile.proofs.read.refile_leaves.Tie as tie
+
+bad-replica-requires : tie.Need-bad-replica-requires
+bad-replica-requires c κs = search needs
 
 refused-requires : tie.Need-refused-requires
 refused-requires c κs = search needs
 
 returns : tie.Need-returns
 unfolding leavesCall
-returns c = made (bad-size _ _ _ [] (c .before .if1 .taken)) (c .refused .ensures) refl
+returns c = made (house-stops _ _ _ _ (c .before .before .bad-replica .ensures) (c .before .if1 .taken)) (c .refused .ensures) refl
 
 leaves-requires : tie.Need-leaves-requires
-leaves-requires c κs = c .before .before .before .before .before .pre (c .before .if1 .left)
+leaves-requires c κs = lent-stands _ (none-first _ _ (c .before .before .bad-replica .ensures) (c .before .if1 .left)) (c .before .before .before .before .before .before .pre)
 
 answered-requires : tie.Need-answered-requires
 answered-requires c κs = search needs
@@ -26,9 +28,9 @@ same-length c = search needs
 
 returns-2 : tie.Need-returns-2
 unfolding leavesCall
-returns-2 c = reads-on _ _ _ _ _ _ (sized _ _ _ (c .before .before .before .before .before .if1 .left)) (c .before .before .before .leaves .ensures) (c .answered .ensures)
+returns-2 c = reads-on _ _ _ _ _ _ (house-passes _ _ _ _ (c .before .before .before .before .before .before .bad-replica .ensures) (c .before .before .before .before .before .if1 .left)) (c .before .before .before .leaves .ensures) (c .answered .ensures)
 
 pub refile-leaves-spec : {M : Type 1} → statement M
 refile-leaves-spec =
     tie.close
-    (tie.spec refused-requires returns leaves-requires answered-requires same-length returns-2)
+    (tie.spec bad-replica-requires refused-requires returns leaves-requires answered-requires same-length returns-2)

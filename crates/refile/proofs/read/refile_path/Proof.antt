@@ -2,29 +2,32 @@
 use mathlib.Core.Path.{refl}
 use borrow.Author.Needs.{needs}
 use Rattle.refile.specs.Boundary.{pathCall}
-use Rattle.refile.proofs.CallLaws.{bad-size, made}
+use Rattle.refile.proofs.CallLaws.{first-stops, none-first, lent-stands, made}
 use Rattle.refile.proofs.ReadCallLaws.{path-bad-hash, path-answers}
 use Rattle.refile.proofs.read.refile_path.Statement.{statement}
 use Rattle.refile.proofs.read.refile_path.Tie as tie
+
+bad-replica-requires : tie.Need-bad-replica-requires
+bad-replica-requires c κs = search needs
 
 refused-requires : tie.Need-refused-requires
 refused-requires c κs = search needs
 
 returns : tie.Need-returns
 unfolding pathCall
-returns c = made (bad-size _ _ _ _ (c .before .if1 .taken)) (c .refused .ensures) refl
+returns c = made (first-stops _ _ _ _ _ (c .before .before .bad-replica .ensures) (c .before .if1 .taken)) (c .refused .ensures) refl
 
 refused-requires-2 : tie.Need-refused-requires-2
 refused-requires-2 c κs = search needs
 
 returns-2 : tie.Need-returns-2
-returns-2 c = path-bad-hash _ _ _ _ _ (c .before .before .if1 .left) _ (c .before .if2 .taken) (c .refused2 .ensures)
+returns-2 c = path-bad-hash _ _ _ _ _ (none-first _ _ (c .before .before .before .bad-replica .ensures) (c .before .before .if1 .left)) _ (c .before .if2 .taken) (c .refused2 .ensures)
 
 get-hash-requires : tie.Need-get-hash-requires
 get-hash-requires c κs = search needs
 
 path-requires : tie.Need-path-requires
-path-requires c κs = c .before .before .before .before .before .before .before .before .pre (c .before .before .before .if1 .left)
+path-requires c κs = lent-stands _ (none-first _ _ (c .before .before .before .before .bad-replica .ensures) (c .before .before .before .if1 .left)) (c .before .before .before .before .before .before .before .before .before .pre)
 
 answered-requires : tie.Need-answered-requires
 answered-requires c κs = search needs
@@ -33,12 +36,13 @@ same-length : tie.Need-same-length
 same-length c = search needs
 
 returns-3 : tie.Need-returns-3
-returns-3 c = path-answers _ _ _ _ _ (c .before .before .before .before .before .before .before .if1 .left) _ _ _ _ (c .before .before .before .before .before .before .if2 .left) (c .before .before .before .before .before .get-hash .ensures) (c .before .before .before .path .ensures) (c .answered .ensures)
+returns-3 c = path-answers _ _ _ _ _ (none-first _ _ (c .before .before .before .before .before .before .before .before .bad-replica .ensures) (c .before .before .before .before .before .before .before .if1 .left)) _ _ _ _ (c .before .before .before .before .before .before .if2 .left) (c .before .before .before .before .before .get-hash .ensures) (c .before .before .before .path .ensures) (c .answered .ensures)
 
 pub refile-path-spec : {M : Type 1} → statement M
 refile-path-spec =
     tie.close
     (tie.spec
+    bad-replica-requires
     refused-requires
     returns
     refused-requires-2

@@ -1,29 +1,31 @@
 -- `refile_update_sequence` meets its contract. Assumes nothing.
 use mathlib.Core.Path.{sym, ap, _∙_}
-use mathlib.Core.List.{[]}
 use Rattle.refile.specs.Boundary.{sequenceCall}
-use Rattle.refile.proofs.CallLaws.{bad-size, sized}
+use Rattle.refile.proofs.CallLaws.{house-stops, house-passes, none-first, lent-stands}
 use borrow.Author.Needs.{needs}
 use Rattle.refile.proofs.read.refile_update_sequence.Statement.{statement}
 use Rattle.refile.proofs.read.refile_update_sequence.Tie as tie
+
+bad-replica-requires : tie.Need-bad-replica-requires
+bad-replica-requires c κs = search needs
 
 refused-requires : tie.Need-refused-requires
 refused-requires c κs = search needs
 
 returns : tie.Need-returns
 unfolding sequenceCall
-returns c = c .refused .ensures ∙ sym (ap (λ p. p .0) (bad-size _ _ _ [] (c .before .if1 .taken)))
+returns c = c .refused .ensures ∙ sym (ap (λ p. p .0) (house-stops _ _ _ _ (c .before .before .bad-replica .ensures) (c .before .if1 .taken)))
 
 sequence-requires : tie.Need-sequence-requires
-sequence-requires c κs = c .before .before .pre (c .if1 .left)
+sequence-requires c κs = lent-stands _ (none-first _ _ (c .before .bad-replica .ensures) (c .if1 .left)) (c .before .before .before .pre)
 
 cast-result : tie.Need-cast-result
 cast-result c = search needs
 
 returns-2 : tie.Need-returns-2
 unfolding sequenceCall
-returns-2 c = ap (λ q. q .0) (c .before .sequence .ensures) ∙ sym (ap (λ p. p .0) (sized _ _ _ (c .before .before .if1 .left)))
+returns-2 c = ap (λ q. q .0) (c .before .sequence .ensures) ∙ sym (ap (λ p. p .0) (house-passes _ _ _ _ (c .before .before .before .bad-replica .ensures) (c .before .before .if1 .left)))
 
 pub refile-update-sequence-spec : {M : Type 1} → statement M
 refile-update-sequence-spec =
-    tie.close (tie.spec refused-requires returns sequence-requires cast-result returns-2)
+    tie.close (tie.spec bad-replica-requires refused-requires returns sequence-requires cast-result returns-2)

@@ -1,0 +1,48 @@
+-- `lay_out` meets its contract. Assumes nothing.
+use Rattle.rules.specs.Bytes.{part}
+use Rattle.codec.proofs.TakeLaws.{laid}
+use borrow.Author.Needs.{needs}
+use Rattle.codec.proofs.lay_out.Statement.{statement}
+use Rattle.codec.proofs.lay_out.Tie as tie
+
+clear-requires : tie.Need-clear-requires
+clear-requires c κs = search needs
+
+sub-copy-in : tie.Need-sub-copy-in
+sub-copy-in c = search needs
+
+part-copy-in-start : tie.Need-part-copy-in-start
+part-copy-in-start c = search needs
+
+part-copy-in-end : tie.Need-part-copy-in-end
+part-copy-in-end c = search needs
+
+copy-in-requires : tie.Need-copy-in-requires
+copy-in-requires c κs = search needs
+
+copy-entries-requires : tie.Need-copy-entries-requires
+copy-entries-requires c κs = search needs
+
+copy-in-requires-2 : tie.Need-copy-in-requires-2
+copy-in-requires-2 c κs = search needs
+
+same-length : tie.Need-same-length
+same-length c = search needs
+
+returns : tie.Need-returns
+unfolding part
+returns c = laid _ _ _ _ _ _ _ _ (c .before .before .before .before .before .before .before .before .before .before .before .before .before .before .before .before .before .before .before .before .pre .size) (c .before .before .before .before .before .before .before .before .before .before .before .before .before .before .before .clear .ensures) (c .before .before .before .before .before .before .before .before .before .before .copy-in .ensures) (c .before .before .before .before .before .before .copy-entries .ensures) (c .before .before .copy-in2 .ensures)
+
+pub lay-out-spec : {M : Type 1} → statement M
+lay-out-spec =
+    tie.close
+    (tie.spec
+    clear-requires
+    sub-copy-in
+    part-copy-in-start
+    part-copy-in-end
+    copy-in-requires
+    copy-entries-requires
+    copy-in-requires-2
+    same-length
+    returns)
