@@ -10,15 +10,11 @@ use std::fmt::Write as _;
 use std::iter;
 use std::ops::Range;
 
+use refile_model::sizes::{
+    ASKED_BYTES, DOCUMENTS, HASH_BYTES, ID_BYTES, LEAF_BYTES, PATH_HASHES, REVISIONS,
+};
 use refile_model::{Change, Content, Counts, Refusal, Replica};
 
-const DOCUMENTS: usize = 32;
-const REVISIONS: usize = 512;
-const PATH_HASHES: usize = 512;
-const ID_BYTES: usize = 32;
-const HASH_BYTES: usize = 16;
-const LEAF_BYTES: usize = 29;
-const ASKED_BYTES: usize = 20;
 const HEAD_BYTES: usize = 16;
 const ENTRY_BYTES: usize = 44;
 const ROW_BYTES: usize = 48;
@@ -708,7 +704,7 @@ fn row_is_sound(row: &[u8; ROW_BYTES]) -> bool {
     let number = u32::from_be_bytes(field(row, 0));
     let (kind, parent_known) = (row[20], row[21]);
     let parent_fits = match parent_known {
-        0 => row[24..40] == [0; 16],
+        0 => row[24..40] == [0; HASH_BYTES],
         1 => number > 1,
         _ => false,
     };

@@ -2,13 +2,15 @@
 //! works share it.
 
 use refile_bench::baseline::Baseline;
+use refile_model::layout::IMAGE_MOST;
 use refile_model::random::Random;
+use refile_model::sizes::{DOCUMENTS, HASH_BYTES, REVISIONS};
 use refile_model::{Content, Replica};
 
-pub const DOCUMENTS: usize = 32;
-pub const REVISIONS: usize = 512;
-pub const HASH_BYTES: usize = 16;
-pub const IMAGE_MOST: usize = 26_000;
+/// Revisions of each document, where all have the same share of the room.
+pub const SHARE: usize = REVISIONS / DOCUMENTS;
+/// Half of the room, for one document that is half a trunk and half its leaves.
+pub const HALF: usize = REVISIONS / 2;
 
 /// A path write.
 #[derive(Clone, Copy)]
@@ -67,7 +69,8 @@ fn on_top(random: &mut Random, path: &[u8]) -> &'static [u8] {
     [&random.bytes(HASH_BYTES), path].concat().leak()
 }
 
-/// 512 writes that make one history, each of the newest revision and at most so many hashes.
+/// Writes that make one history and take all the room, each of the newest revision and at most so many
+/// hashes.
 pub fn history(hashes: usize) -> Vec<Write> {
     let id = ids()[0];
     let mut random = Random::new(512);
@@ -84,7 +87,7 @@ pub fn history(hashes: usize) -> Vec<Write> {
     (1..=REVISIONS).map(write).collect()
 }
 
-/// The image of a full replica of 32 documents with 16 revisions each: lines, branches, deletions
+/// The image of a full replica whose documents have as many revisions each: lines, branches, deletions
 /// and revisions whose parent isn't known, written in an order that mixes the documents.
 pub fn mixed() -> Vec<u8> {
     let ids = ids();
@@ -112,16 +115,16 @@ pub fn mixed() -> Vec<u8> {
     image(&replica)
 }
 
-/// The image of one document with a trunk of 256 revisions and 256 leaves on top of it.
+/// The image of one document with a trunk of half the room and as many leaves on top of it.
 pub fn trunk() -> Vec<u8> {
     let id = ids()[0];
     let mut random = Random::new(256);
-    let stem = random.bytes(HASH_BYTES * 256);
+    let stem = random.bytes(HASH_BYTES * HALF);
     let mut replica = Baseline::fresh();
-    for _ in 0..256 {
+    for _ in 0..HALF {
         let write = Write {
             id,
-            number: 257,
+            number: HALF as u32 + 1,
             path: on_top(&mut random, &stem),
             content: content(&mut random),
         };
@@ -130,7 +133,7 @@ pub fn trunk() -> Vec<u8> {
     image(&replica)
 }
 
-/// Leaves on the first revisions of 32 documents.
+/// Leaves on the first revisions of all documents.
 pub struct Bushes {
     /// Writes of the first revisions alone.
     pub roots: Vec<Write>,

@@ -15,16 +15,19 @@ mod works;
 use std::env;
 use std::fs;
 use std::io;
+use std::iter::successors;
 use std::path::{Path, PathBuf};
 use std::process::Command;
 use std::time::Duration;
 
 use refile_bench::baseline::Baseline;
 use refile_bench::linked::Linked;
+use refile_model::layout::{image_bytes, ROW_BYTES};
 use refile_model::random::Random;
+use refile_model::sizes::{ASKED_BYTES, DOCUMENTS, LEAF_BYTES, PATH_HASHES, REVISIONS};
 use refile_model::Replica;
 
-use data::{Write, DOCUMENTS, REVISIONS};
+use data::{Write, HALF, SHARE};
 use measure::{interleave, Nanoseconds, Side, Times};
 
 /// The same work by the library and by the baseline.
@@ -57,6 +60,9 @@ fn main() {
     bench.growth();
 }
 
+/// How many writes are measured at either end of a history.
+const SOME: usize = 64;
+
 struct Bench {
     budget: Duration,
 }
@@ -69,9 +75,9 @@ impl Bench {
         let fresh = data::image(&Baseline::fresh());
         let asked = asked(&mixed);
         let short = data::history(2);
-        let full = data::history(REVISIONS);
-        let whole = &full[REVISIONS - 1..];
-        let bushes = data::bushes(15).layers.concat();
+        let full = data::history(PATH_HASHES);
+        let whole = &full[PATH_HASHES - 1..PATH_HASHES];
+        let bushes = data::bushes(SHARE - 1).layers.concat();
 
         println!(
             "| Work | library, min / median | baseline, min / median | memcpy | byte sum | ratio | \
@@ -89,28 +95,31 @@ impl Bench {
             sides!(save(&mixed)),
         );
         self.row(
-            "winner, 32 documents of 16 revisions",
+            &format!("winner, {DOCUMENTS} documents of {SHARE} revisions"),
             (Some(2.0), None),
             sides!(winner(&mixed, &ids)),
         );
         self.row(
-            "leaves, 32 documents of 16 revisions",
+            &format!("leaves, {DOCUMENTS} documents of {SHARE} revisions"),
             (Some(1.0), None),
-            sides!(leaves(&mixed, &ids, 16)),
+            sides!(leaves(&mixed, &ids, SHARE)),
         );
         self.row(
-            "leaves, one document with 256",
-            (Some(1.0), Some(256 * 29)),
-            sides!(leaves(&trunk, &ids[..1], 256)),
+            &format!("leaves, one document with {HALF}"),
+            (Some(1.0), Some(HALF * LEAF_BYTES)),
+            sides!(leaves(&trunk, &ids[..1], HALF)),
         );
         self.row(
-            "missing, 32 asked of each of 32 documents, half of them known",
+            &format!(
+                "missing, {} asked of each of {DOCUMENTS} documents, half of them known",
+                2 * SHARE
+            ),
             (None, Some(asked[0].len())),
             sides!(missing(&mixed, &ids, &asked)),
         );
         self.check_process(&mixed);
         self.row(
-            "a write that extends one history up to 512, path of 2",
+            &format!("a write that extends one history up to {REVISIONS}, path of 2"),
             (Some(0.5), None),
             sides!(writes(&[], &short, 1)),
         );
@@ -120,7 +129,7 @@ impl Bench {
             sides!(writes(&[], &full, 1)),
         );
         self.row(
-            "one path of 512 into a fresh replica",
+            &format!("one path of {PATH_HASHES} into a fresh replica"),
             (Some(1.0), Some(whole[0].path.len())),
             sides!(writes(&[], whole, 1)),
         );
@@ -130,7 +139,10 @@ impl Bench {
             sides!(writes(whole, whole, 1)),
         );
         self.row(
-            "32 documents of 15 leaves, random order, each write repeated",
+            &format!(
+                "{DOCUMENTS} documents of {} leaves, random order, each write repeated",
+                SHARE - 1
+            ),
             (Some(1.5), None),
             sides!(writes(&[], &bushes, 2)),
         );
@@ -145,7 +157,7 @@ impl Bench {
             sides!(pull(&mixed, &mixed)),
         );
         self.row(
-            "pull of a trunk of 256 with 256 leaves into an empty one",
+            &format!("pull of a trunk of {HALF} with {HALF} leaves into an empty one"),
             (Some(1.0), Some(trunk.len())),
             sides!(pull(&trunk, &fresh)),
         );
@@ -210,8 +222,8 @@ impl Bench {
     /// Whether a history grows at the same cost however long it is.
     fn first_and_last(&self) {
         let writes = data::history(2);
-        let first = &writes[..64];
-        let (before, last) = writes.split_at(REVISIONS - 64);
+        let first = &writes[..SOME];
+        let (before, last) = writes.split_at(REVISIONS - SOME);
         let (mut library_first, mut baseline_first) = sides!(writes(&[], first, 1));
         let (mut library_last, mut baseline_last) = sides!(writes(before, last, 1));
         let [library_first, library_last, baseline_first, baseline_last] = interleave(
@@ -225,7 +237,7 @@ impl Bench {
         );
         println!(
             "A write that extends one history, path of 2:\n\n\
-             | | first 64 | last 64 | last to first | goal | met |\n\
+             | | first {SOME} | last {SOME} | last to first | goal | met |\n\
              |---|---|---|---|---|---|"
         );
         for (name, first, last, goal) in [
@@ -240,16 +252,18 @@ impl Bench {
 
     /// How a write's cost grows with what is held.
     fn growth(&self) {
+        let least = 2 * DOCUMENTS;
         println!(
-            "A new revision by a path of 2, the last 32 of so many held:\n\n\
-             | Held | one history: library | baseline | ratio | to 64 held | \
-             leaves on 32 documents: library | baseline | ratio | to 64 held |\n\
+            "A new revision by a path of 2, the last {DOCUMENTS} of so many held:\n\n\
+             | Held | one history: library | baseline | ratio | to {least} held | \
+             leaves on {DOCUMENTS} documents: library | baseline | ratio | to {least} held |\n\
              |---|---|---|---|---|---|---|---|---|"
         );
         let line = data::history(2);
-        let bushes = data::bushes(REVISIONS / DOCUMENTS - 1);
-        let mut at_64: Option<[Times; 2]> = None;
-        for held in [64, 128, 256, 512] {
+        let bushes = data::bushes(SHARE - 1);
+        let mut at_least: Option<[Times; 2]> = None;
+        let doubled = successors(Some(least), |held| Some(2 * held));
+        for held in doubled.take_while(|held| *held <= REVISIONS) {
             let (before, last) = line[..held].split_at(held - DOCUMENTS);
             let one = self.pair(sides!(writes(before, last, 1)));
 
@@ -258,17 +272,17 @@ impl Bench {
             let before: Vec<Write> = [bushes.roots.clone(), before.concat()].concat();
             let many = self.pair(sides!(writes(&before, &last[0], 1)));
 
-            let at_64 = at_64.get_or_insert([one[0], many[0]]);
+            let at_least = at_least.get_or_insert([one[0], many[0]]);
             println!(
                 "| {held} | {} | {} | {:.2} | {:.2} | {} | {} | {:.2} | {:.2} |",
                 one[0],
                 one[1],
                 one[0].least / one[1].least,
-                one[0].least / at_64[0].least,
+                one[0].least / at_least[0].least,
                 many[0],
                 many[1],
                 many[0].least / many[1].least,
-                many[0].least / at_64[1].least,
+                many[0].least / at_least[1].least,
             );
         }
     }
@@ -306,13 +320,15 @@ impl std::fmt::Display for Verdict {
     }
 }
 
-/// For each document a list of its own 16 revisions and 16 of the next one's, mixed.
+/// For each document a list of its own revisions and as many of the next one's, mixed.
 fn asked(mixed: &[u8]) -> Vec<Vec<u8>> {
-    let rows: Vec<&[u8]> = mixed[16 + 44 * DOCUMENTS..].chunks(48).collect();
+    let rows: Vec<&[u8]> = mixed[image_bytes(DOCUMENTS, 0)..]
+        .chunks(ROW_BYTES)
+        .collect();
     let mut random = Random::new(20);
     let list = |document: usize| {
-        let own_and_next = rows.iter().cycle().skip(16 * document).take(32);
-        let mut asked: Vec<&[u8]> = own_and_next.map(|row| &row[..20]).collect();
+        let own_and_next = rows.iter().cycle().skip(SHARE * document).take(2 * SHARE);
+        let mut asked: Vec<&[u8]> = own_and_next.map(|row| &row[..ASKED_BYTES]).collect();
         random.shuffle(&mut asked);
         asked.concat()
     };

@@ -5,9 +5,11 @@ use std::hint::black_box;
 use std::path::Path;
 use std::process::{Command, Stdio};
 
+use refile_model::layout::IMAGE_MOST;
+use refile_model::sizes::{ASKED_BYTES, LEAF_BYTES};
 use refile_model::{Counts, Replica};
 
-use crate::data::{image, loaded, written, Write, IMAGE_MOST};
+use crate::data::{image, loaded, written, Write};
 use crate::measure::{timed, Side};
 
 /// How often a quick call is made in a round.
@@ -69,13 +71,13 @@ fn read<'a, R: Replica + 'a>(
 }
 
 pub fn winner<'a, R: Replica + 'a>(bytes: &[u8], ids: &'a [&[u8]]) -> Side<'a> {
-    read(bytes, ids, 29, |replica: &R, i, out| {
+    read(bytes, ids, LEAF_BYTES, |replica: &R, i, out| {
         replica.winner(ids[i], out).expect("the winner is there")
     })
 }
 
 pub fn leaves<'a, R: Replica + 'a>(bytes: &[u8], ids: &'a [&[u8]], most: usize) -> Side<'a> {
-    read(bytes, ids, 29 * most, |replica: &R, i, out| {
+    read(bytes, ids, LEAF_BYTES * most, |replica: &R, i, out| {
         replica.leaves(ids[i], out).expect("the leaves fit")
     })
 }
@@ -86,7 +88,7 @@ pub fn missing<'a, R: Replica + 'a>(
     ids: &'a [&[u8]],
     asked: &'a [Vec<u8>],
 ) -> Side<'a> {
-    let room = asked[0].len() / 20;
+    let room = asked[0].len() / ASKED_BYTES;
     read(bytes, ids, room, move |replica: &R, i, out| {
         replica
             .missing(ids[i], &asked[i], out)

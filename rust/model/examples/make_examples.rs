@@ -7,11 +7,13 @@
 //!
 //! Nothing here is drawn by chance, so the files come out the same every time.
 
-use refile_model::images::{lot, save};
-use refile_model::layout::{image_bytes, Image};
-use refile_model::model::{Hash, Held, Model};
-use refile_model::offers::hash;
+use refile_model::held::Hash;
+use refile_model::images::{lot, report, save};
+use refile_model::layout::{image_bytes, Image, IMAGE_MOST};
+use refile_model::model::Model;
+use refile_model::offers::{hash, path};
 use refile_model::random::Random;
+use refile_model::sizes::{DOCUMENTS, HASH_BYTES, ID_BYTES, REVISIONS};
 use refile_model::{Content, Counts, Replica};
 use std::path::Path;
 use std::{env, fs, io};
@@ -38,15 +40,10 @@ fn main() -> io::Result<()> {
     Ok(())
 }
 
-fn report(image: &[u8]) -> String {
-    let mut out = vec![0; 8192];
-    let length = Model::report(image, &mut out).expect("no report is longer");
-    out.truncate(length as usize);
-    String::from_utf8(out).expect("a report is ASCII")
-}
-
 fn sound_examples() -> Vec<Example> {
     let (north_after, south_after) = story();
+    let most = u32::MAX;
+    let full_begins = format!("seq {most} documents {DOCUMENTS} revisions {REVISIONS}\n");
     let sound = [
         (
             "lot",
@@ -59,11 +56,7 @@ fn sound_examples() -> Vec<Example> {
             save(&Model::fresh()),
             "seq 0 documents 0 revisions 0\n",
         ),
-        (
-            "full",
-            full(),
-            "seq 4294967295 documents 32 revisions 512\n",
-        ),
+        ("full", full(), &full_begins),
         ("north", save(&north()), "seq 5 documents 4 revisions 7\n"),
         ("south", save(&south()), "seq 5 documents 4 revisions 7\n"),
         (
@@ -87,8 +80,7 @@ fn sound_examples() -> Vec<Example> {
 
 /// Writes a path, its hashes given by their first bytes, that must be a change.
 fn give(replica: &mut Model, id: &[u8], number: u32, first_bytes: &[u8], content: Content) {
-    let path: Vec<u8> = first_bytes.iter().copied().flat_map(hash).collect();
-    let written = replica.write(id, number, &path, content);
+    let written = replica.write(id, number, &path(first_bytes), content);
     assert_eq!(written, Ok(true), "{number}-{first_bytes:x?}");
 }
 
@@ -136,22 +128,13 @@ fn story() -> (Model, Model) {
     assert_eq!(edited, Ok(3));
     assert_eq!(south.pull(&north, 0), counts(1, 5, 0));
     assert_eq!(north.pull(&south, 0), counts(0, 6, 0));
-    assert_eq!(without_sequences(&north), without_sequences(&south));
+    let held = |office: &Model| office.held().without_sequences();
+    assert_eq!(held(&north), held(&south));
     (north, south)
 }
 
-/// What a store holds, but for the sequences, which each office counts for itself.
-fn without_sequences(store: &Model) -> Held {
-    let mut held = store.held().clone();
-    held.sequence = 0;
-    for document in held.documents.values_mut() {
-        document.sequence = 0;
-    }
-    held
-}
-
-/// A store with every kind of tree and no room for anything more: 32 documents, 512 revisions, and
-/// the update sequence at its end.
+/// A store with every kind of tree and no room for anything more, be it a document or a revision,
+/// and the update sequence at its end.
 fn full() -> Vec<u8> {
     let mut store = Filling::new();
     store.odd_ids();
@@ -168,7 +151,7 @@ fn full() -> Vec<u8> {
         entry.sequence += raise;
     }
     let image = image.bytes();
-    assert_eq!(image.len(), 26_000);
+    assert_eq!(image.len(), IMAGE_MOST);
     image
 }
 
@@ -187,7 +170,8 @@ impl Filling {
     }
 
     fn hash(&mut self) -> Hash {
-        self.hashes.bytes(16).try_into().expect("16 bytes")
+        let bytes = self.hashes.bytes(HASH_BYTES);
+        bytes.try_into().expect("as many bytes")
     }
 
     /// So many new hashes, newest first.
@@ -222,7 +206,7 @@ impl Filling {
         self.trunk(b"a", 1, 1, Live(2));
         self.trunk(b"ab", 1, 3, Live(3));
         self.trunk(b"\0", 1, 1, Live(4));
-        self.trunk(&[0xff; 32], 1, 4, Live(5));
+        self.trunk(&[0xff; ID_BYTES], 1, 4, Live(5));
         self.trunk(b"an id that has thirty-two bytes.", 1, 2, Live(6));
     }
 
@@ -294,16 +278,16 @@ impl Filling {
     fn the_rest(&mut self) {
         let mut first = None;
         let (documents, _) = self.replica.counts();
-        for invoice in 1..32 - documents {
+        for invoice in 1..DOCUMENTS as u32 - documents {
             let id = format!("invoice-{invoice:04}");
-            let trunk = self.trunk(id.as_bytes(), 1, 5 + invoice, Live(100));
+            let trunk = self.trunk(id.as_bytes(), 1, 6 + (invoice - 1) % 10, Live(100));
             let at = (3, trunk[2]);
             first = first.or(Some(at));
             self.child(id.as_bytes(), at, Live(101));
         }
         self.child(b"invoice-0001", first.expect("an invoice"), Live(102));
         let (_, revisions) = self.replica.counts();
-        self.trunk(b"ledger", 1, 512 - revisions, Live(103));
+        self.trunk(b"ledger", 1, REVISIONS as u32 - revisions, Live(103));
     }
 }
 

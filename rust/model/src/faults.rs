@@ -3,10 +3,12 @@
 //! Each shows that the comparison notices its kind of mistake.
 
 use crate::harness::{check_image, run_scenario, Difference};
+use crate::held::{Base, Document, Edit, Given, Hash, Held, Leaf, Revision};
 use crate::layout::{Entry, Image, Row};
-use crate::model::{Base, Document, Edit, Given, Hash, Held, Leaf, ModelOf, Revision};
+use crate::model::ModelOf;
 use crate::rules::{self, House, Rules};
-use crate::scenario::Scenario;
+use crate::sizes::{DOCUMENTS, HASH_BYTES, ID_BYTES, PATH_HASHES, REVISIONS};
+use crate::steps::Scenario;
 use crate::{Content, Refusal, Replica};
 use std::cmp::Ordering;
 use std::collections::BTreeSet;
@@ -33,10 +35,10 @@ pub fn all<A: Replica>() -> Vec<Fault> {
         fault::<A, IdsWithoutLength>(),
         fault::<A, LabelZeroDeletes>(),
         fault::<A, ContentKeptByParent>(),
-        fault::<A, IdOf32Refused>(),
+        fault::<A, LongestIdRefused>(),
         fault::<A, DocumentTooMany>(),
         fault::<A, RevisionTooMany>(),
-        fault::<A, PathOf512Refused>(),
+        fault::<A, LongestPathRefused>(),
         fault::<A, ZeroParentUnknown>(),
         fault::<A, AncestryDropped>(),
         fault::<A, ParentAloneIsNoChange>(),
@@ -138,11 +140,11 @@ impl Rules for ContentKeptByParent {
 
 /// Has an id's length wrong by one.
 #[derive(Clone, Default)]
-pub struct IdOf32Refused;
+pub struct LongestIdRefused;
 
-impl Rules for IdOf32Refused {
+impl Rules for LongestIdRefused {
     fn most_id_bytes(&self) -> usize {
-        31
+        ID_BYTES - 1
     }
 }
 
@@ -152,7 +154,7 @@ pub struct DocumentTooMany;
 
 impl Rules for DocumentTooMany {
     fn most_documents(&self) -> usize {
-        33
+        DOCUMENTS + 1
     }
 }
 
@@ -162,17 +164,17 @@ pub struct RevisionTooMany;
 
 impl Rules for RevisionTooMany {
     fn most_revisions(&self) -> usize {
-        513
+        REVISIONS + 1
     }
 }
 
 /// Refuses the longest path.
 #[derive(Clone, Default)]
-pub struct PathOf512Refused;
+pub struct LongestPathRefused;
 
-impl Rules for PathOf512Refused {
+impl Rules for LongestPathRefused {
     fn most_hashes(&self) -> usize {
-        511
+        PATH_HASHES - 1
     }
 }
 
@@ -185,7 +187,7 @@ pub struct ZeroParentUnknown;
 impl Rules for ZeroParentUnknown {
     fn revisions(&self, given: &Given) -> Vec<Revision> {
         let mut revisions = given.revisions();
-        let unknown = |revision: &Revision| revision.hash == [0; 16];
+        let unknown = |revision: &Revision| revision.hash == [0; HASH_BYTES];
         if let Some(end) = revisions.iter().skip(1).position(unknown) {
             revisions.truncate(end + 1);
         }
@@ -243,7 +245,7 @@ pub struct NumberZeroReached;
 
 impl Rules for NumberZeroReached {
     fn number_too_small(&self, given: &Given) -> bool {
-        (given.number as usize) + 1 < given.path.len() / 16
+        (given.number as usize) + 1 < given.path.len() / HASH_BYTES
     }
 }
 
@@ -308,7 +310,7 @@ impl Rules for ContentOfParentRefused {
     }
 }
 
-/// Refuses a write to a known document once 32 are held.
+/// Refuses a write to a known document once there is no room for another.
 #[derive(Clone, Default)]
 pub struct KnownDocumentNeedsRoom;
 
@@ -868,7 +870,7 @@ impl Rules for ZeroParentUnknownInImage {
     fn row_parent(&self, row: &Row) -> Option<Revision> {
         House
             .row_parent(row)
-            .filter(|parent| parent.hash != [0; 16])
+            .filter(|parent| parent.hash != [0; HASH_BYTES])
     }
 }
 

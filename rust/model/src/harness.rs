@@ -1,14 +1,13 @@
 //! Runs scenarios and images on two kinds of replica side by side, and compares every answer,
 //! refusal, place and byte.
 
-use crate::images;
+use crate::images::{lot, report, save};
+use crate::layout::IMAGE_MOST;
 use crate::model::hex;
-use crate::scenario::{Scenario, Step, REPLICAS};
+use crate::sizes::LEAF_BYTES;
+use crate::steps::{Scenario, Step, REPLICAS};
 use crate::{Change, Counts, Refusal, Replica};
 use std::fmt;
-
-/// "The largest image has 26,000 bytes."
-pub const IMAGE_MOST: usize = 26_000;
 
 /// What a step answered.
 #[derive(Clone, Copy, PartialEq, Eq, Debug)]
@@ -263,8 +262,52 @@ fn compare(
     Ok(())
 }
 
+/// The steps that look at an image: the load on top of a former replica, what is saved after it,
+/// the report into a buffer that is exact and into one that is a byte short, and, of a sound image,
+/// what the reads and a pull make of it.
+pub fn checking(image: &[u8]) -> Scenario {
+    let mut loaded = lot();
+    let accepted = loaded.load(image).is_ok();
+    let report = report(image).len();
+    let mut steps = vec![
+        Step::Load {
+            at: 0,
+            image: save(&lot()),
+        },
+        Step::Load {
+            at: 0,
+            image: image.to_vec(),
+        },
+        Step::Save {
+            at: 0,
+            room: save(&loaded).len() + 9,
+        },
+    ];
+    for room in [report, report - 1] {
+        steps.push(Step::Report {
+            image: image.to_vec(),
+            room,
+        });
+    }
+    if accepted {
+        for (id, document) in &loaded.held().documents {
+            steps.push(Step::Leaves {
+                at: 0,
+                id: id.clone(),
+                room: LEAF_BYTES * document.leaves().len(),
+            });
+        }
+        steps.push(Step::Pull {
+            at: 1,
+            from: 0,
+            after: 0,
+        });
+    }
+    Scenario { steps }
+}
+
 /// Compares what two kinds of replica make of an image, sound or not: the load on top of a former
 /// replica, the report, what is saved afterwards, and what the reads and a pull make of it.
 pub fn check_image<A: Replica, B: Replica>(image: &[u8]) -> Result<(), Difference> {
-    run_scenario::<A, B>(&images::checking(image))
+    run_scenario::<A, B>(&checking(image))
 }

@@ -1,11 +1,11 @@
-//! Stored images, sound and damaged, made from a seed, and the scenario that looks at one.
+//! Stored images, sound and damaged, made from a seed, and the traps by name.
 
-use crate::harness::IMAGE_MOST;
-use crate::layout::{image_bytes, Entry, Image, Row};
-use crate::model::{Hash, Model};
-use crate::offers::{content, hash, some_document, Alphabet, Offer};
+use crate::held::Hash;
+use crate::layout::{image_bytes, Entry, Image, Row, IMAGE_MOST};
+use crate::model::{Model, REPORT_MOST};
+use crate::offers::{content, hash, path, some_document, Alphabet, Offer};
 use crate::random::Random;
-use crate::scenario::{Scenario, Step};
+use crate::sizes::{DOCUMENTS, ID_BYTES, PATH_HASHES, REVISIONS};
 use crate::{Content, Replica};
 
 /// The image of a seed: sound or damaged in one of several ways, or no image at all.
@@ -25,6 +25,14 @@ pub fn save(replica: &Model) -> Vec<u8> {
     let length = replica.save(&mut out).expect("the largest image fits");
     out.truncate(length as usize);
     out
+}
+
+/// What the check program prints of an image.
+pub fn report(image: &[u8]) -> String {
+    let mut out = vec![0; REPORT_MOST];
+    let length = Model::report(image, &mut out).expect("no report is longer");
+    out.truncate(length as usize);
+    String::from_utf8(out).expect("a report is ASCII")
 }
 
 /// The image of a random replica. Most are small, some are full, and in some the sequences or the
@@ -60,16 +68,17 @@ fn small(random: &mut Random) -> Model {
     replica
 }
 
-/// A replica with no room left, or nearly none: one document or all 32, 509 to 512 revisions.
+/// A replica with no room left, or nearly none: few documents or all there is room for, and room
+/// for at most three revisions more.
 pub fn full(random: &mut Random) -> Model {
-    let documents = *random.pick(&[1, 2, 31, 32, 32]);
-    let revisions = 509 + random.below(4);
+    let documents = *random.pick(&[1, 2, DOCUMENTS - 1, DOCUMENTS, DOCUMENTS]);
+    let revisions = REVISIONS - 3 + random.below(4);
     filled(random, documents, revisions)
 }
 
 /// A replica of so many documents and revisions.
 fn filled(random: &mut Random, documents: usize, revisions: usize) -> Model {
-    let share = revisions / documents;
+    let share = (revisions / documents).min(PATH_HASHES);
     let mut replica = Model::fresh();
     let mut made = 0_u16;
     let mut new_hash = || {
@@ -178,7 +187,7 @@ fn spoil_entry(random: &mut Random, entries: &mut [Entry]) {
     let entry = &mut entries[at];
     match random.below(8) {
         0 => entry.id_length = other(random, entry.id_length.into(), 8) as u8,
-        1 => entry.id[random.below(32)] = other(random, 0, 8) as u8,
+        1 => entry.id[random.below(ID_BYTES)] = other(random, 0, 8) as u8,
         2 => entry.id = model.id,
         3 => entry.zero = other(random, 0, 8) as u8,
         4 => entry.rows = other(random, entry.rows.into(), 16) as u16,
@@ -241,7 +250,7 @@ fn rearrange(random: &mut Random, image: &mut Image) {
             let model = image.entries[other_entry].clone();
             let entry = &mut image.entries[entry];
             entry.id = model.id;
-            entry.id_length = (model.id_length + 1).min(32);
+            entry.id_length = (model.id_length + 1).min(ID_BYTES as u8);
         }
         // A row given from one document to another.
         3 => {
@@ -385,9 +394,8 @@ pub fn lot() -> Model {
         (2, &[0x4c, 0x20], Content::Live(9)),
         (3, &[0x05, 0x91, 0x20], Content::Deleted),
     ];
-    for (number, path, content) in cases {
-        let path: Vec<u8> = path.iter().copied().flat_map(hash).collect();
-        let written = replica.write(b"lot", number, &path, content);
+    for (number, first_bytes, content) in cases {
+        let written = replica.write(b"lot", number, &path(first_bytes), content);
         written.expect("the cases are accepted");
     }
     replica
@@ -448,7 +456,7 @@ pub fn traps() -> Vec<(&'static str, Vec<u8>)> {
     let mut second_row_bad = written(&[offer(b"a", 1, &one, live), offer(b"b", 1, &one, live)]);
     second_row_bad.rows[1].kind = 3;
 
-    let full = save(&filled(&mut Random::new(0), 32, 512));
+    let full = save(&filled(&mut Random::new(0), DOCUMENTS, REVISIONS));
     let mut a_byte_more = full.clone();
     a_byte_more.push(0);
     let mut far_too_long = full.clone();
@@ -476,49 +484,4 @@ pub fn traps() -> Vec<(&'static str, Vec<u8>)> {
         ("full and a byte more", a_byte_more),
         ("far too long", far_too_long),
     ]
-}
-
-/// The steps that look at an image: the load on top of a former replica, what is saved after it,
-/// the report into a buffer that is exact and into one that is a byte short, and, of a sound image,
-/// what the reads and a pull make of it.
-pub fn checking(image: &[u8]) -> Scenario {
-    let mut loaded = lot();
-    let accepted = loaded.load(image).is_ok();
-    let mut report = vec![0; 8192];
-    let report = Model::report(image, &mut report).expect("no report is longer") as usize;
-    let mut steps = vec![
-        Step::Load {
-            at: 0,
-            image: save(&lot()),
-        },
-        Step::Load {
-            at: 0,
-            image: image.to_vec(),
-        },
-        Step::Save {
-            at: 0,
-            room: save(&loaded).len() + 9,
-        },
-    ];
-    for room in [report, report - 1] {
-        steps.push(Step::Report {
-            image: image.to_vec(),
-            room,
-        });
-    }
-    if accepted {
-        for (id, document) in &loaded.held().documents {
-            steps.push(Step::Leaves {
-                at: 0,
-                id: id.clone(),
-                room: 29 * document.leaves().len(),
-            });
-        }
-        steps.push(Step::Pull {
-            at: 1,
-            from: 0,
-            after: 0,
-        });
-    }
-    Scenario { steps }
 }

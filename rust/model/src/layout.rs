@@ -1,10 +1,14 @@
 //! The bytes of the stored image, field by field. Nothing here judges a field.
 
-use crate::model::{Hash, Revision};
+use crate::held::{Hash, Revision};
+use crate::sizes::{DOCUMENTS, ID_BYTES, REVISIONS};
 
 pub const HEAD_BYTES: usize = 16;
 pub const ENTRY_BYTES: usize = 44;
 pub const ROW_BYTES: usize = 48;
+
+/// "The largest image has 26,000 bytes."
+pub const IMAGE_MOST: usize = image_bytes(DOCUMENTS, REVISIONS);
 
 /// "Head, 16 bytes: edition 1 (2), documents d (2), revisions r (2), zero (2), update sequence (4),
 /// total length (4)".
@@ -23,7 +27,7 @@ pub struct Head {
 #[derive(Clone, PartialEq, Eq, Debug)]
 pub struct Entry {
     pub id_length: u8,
-    pub id: [u8; 32],
+    pub id: [u8; ID_BYTES],
     pub zero: u8,
     pub rows: u16,
     pub sequence: u32,
@@ -80,7 +84,7 @@ impl Fields<'_> {
 }
 
 /// "16 + 44d + 48r".
-pub fn image_bytes(documents: usize, revisions: usize) -> usize {
+pub const fn image_bytes(documents: usize, revisions: usize) -> usize {
     HEAD_BYTES + ENTRY_BYTES * documents + ROW_BYTES * revisions
 }
 

@@ -6,6 +6,7 @@
 
 pub mod faults;
 pub mod harness;
+pub mod held;
 pub mod images;
 pub mod layout;
 pub mod model;
@@ -13,7 +14,10 @@ pub mod offers;
 pub mod random;
 pub mod rules;
 pub mod scenario;
-mod text;
+pub mod sizes;
+pub mod steps;
+pub mod text;
+pub mod trials;
 
 /// What a leaf holds: a live body with its label, or a deletion.
 #[derive(Clone, Copy, PartialEq, Eq, Debug)]

@@ -1,127 +1,16 @@
-//! The model: what a replica holds, and what each call answers and leaves.
+//! The model: what each call answers and leaves.
 //!
 //! The sections are those of the document, whose words stand in quotes above what renders them. The
 //! rules that decide, each refusal's condition among them, are the functions of [`Rules`].
 
-use crate::layout::{image_bytes, Entry, Head, Image, Row};
+use crate::held::{Base, Document, Edit, Given, Hash, Held, Leaf, Revision};
+use crate::layout::{image_bytes, Entry, Head, Image, Row, IMAGE_MOST};
 use crate::rules::{House, Rules};
+use crate::sizes::{ASKED_BYTES, DOCUMENTS, HASH_BYTES, ID_BYTES, LEAF_BYTES};
 use crate::{Change, Content, Counts, Refusal, Replica};
-use std::collections::{BTreeMap, BTreeSet};
 use std::fmt;
 
-// What a replica holds
-
-/// "The hash is sixteen bytes and is compared as sixteen bytes, first byte first."
-pub type Hash = [u8; 16];
-
-/// "A revision of a document is a number and a hash." The order is by number, then by hash.
-#[derive(Clone, Copy, PartialEq, Eq, PartialOrd, Ord, Debug)]
-pub struct Revision {
-    pub number: u32,
-    pub hash: Hash,
-}
-
-/// A revision that is a leaf, with its content.
-#[derive(Clone, Copy, PartialEq, Eq, Debug)]
-pub struct Leaf {
-    pub revision: Revision,
-    pub content: Content,
-}
-
-/// The revisions known, the known parents, the contents of the leaves, and "the sequence of its
-/// last change".
-#[derive(Clone, PartialEq, Eq, Debug, Default)]
-pub struct Document {
-    pub revisions: BTreeSet<Revision>,
-    pub parents: BTreeMap<Revision, Revision>,
-    pub contents: BTreeMap<Revision, Content>,
-    pub sequence: u32,
-}
-
-/// All documents by id, and the update sequence, "0 when fresh".
-#[derive(Clone, PartialEq, Eq, Debug, Default)]
-pub struct Held {
-    pub documents: BTreeMap<Vec<u8>, Document>,
-    pub sequence: u32,
-}
-
-impl Document {
-    pub fn knows(&self, revision: Revision) -> bool {
-        self.revisions.contains(&revision)
-    }
-
-    /// "A revision has a known parent or none."
-    pub fn parent(&self, revision: Revision) -> Option<Revision> {
-        self.parents.get(&revision).copied()
-    }
-
-    /// "A leaf is a revision that no known revision of its document has as parent. Each leaf has a
-    /// content".
-    pub fn leaves(&self) -> Vec<Leaf> {
-        let with_child: BTreeSet<Revision> = self.parents.values().copied().collect();
-        (&self.revisions - &with_child)
-            .into_iter()
-            .map(|revision| Leaf {
-                revision,
-                content: self.contents[&revision],
-            })
-            .collect()
-    }
-
-    pub fn leaf(&self, revision: Revision) -> Option<Leaf> {
-        let leaves = self.leaves();
-        leaves.into_iter().find(|leaf| leaf.revision == revision)
-    }
-
-    /// "Path of a known revision: the revision itself, followed by the path of its parent, as far
-    /// as parents are known."
-    pub fn path(&self, revision: Revision) -> Vec<Hash> {
-        let mut hashes = vec![revision.hash];
-        if let Some(parent) = self.parent(revision) {
-            hashes.extend(self.path(parent));
-        }
-        hashes
-    }
-}
-
-impl Held {
-    /// The revisions "in all documents together".
-    pub fn revisions(&self) -> usize {
-        let documents = self.documents.values();
-        documents.map(|document| document.revisions.len()).sum()
-    }
-}
-
 // Writing a path
-
-/// "A path write gives an id, a number, one or more hashes newest first, and the content of the
-/// newest."
-#[derive(Clone, Copy, Debug)]
-pub struct Given<'a> {
-    pub id: &'a [u8],
-    pub number: u32,
-    pub path: &'a [u8],
-    pub content: Content,
-}
-
-impl Given<'_> {
-    /// "The k-th hash after the newest has the number less k." Of a path that is too long for its
-    /// number, only the revisions that have a number.
-    pub fn revisions(&self) -> Vec<Revision> {
-        let hashes = self.path.chunks_exact(16).zip(0..);
-        let revisions = hashes.map_while(|(hash, k)| {
-            Some(Revision {
-                number: self.number.checked_sub(k)?,
-                hash: hash.try_into().expect("a chunk of 16"),
-            })
-        });
-        revisions.collect()
-    }
-
-    pub fn newest(&self) -> Option<Revision> {
-        self.revisions().first().copied()
-    }
-}
 
 impl Held {
     /// "A path write checks 1 to 8 in that order."
@@ -180,22 +69,6 @@ impl Held {
 }
 
 // Ordinary edit
-
-/// "An edit gives an id, a new hash, a content and optionally a parent revision."
-#[derive(Clone, Copy, Debug)]
-pub struct Edit<'a> {
-    pub id: &'a [u8],
-    pub hash: Hash,
-    pub content: Content,
-    pub parent: Option<Revision>,
-}
-
-/// What an edit that meets the parent rule builds on.
-#[derive(Clone, Copy, PartialEq, Eq, Debug)]
-pub enum Base {
-    NewDocument,
-    Parent(Revision),
-}
 
 impl Held {
     /// "An edit checks 1, 9, 11, 10, 6, 7, 8." "An accepted edit leaves what the path write of the
@@ -345,7 +218,7 @@ impl Held {
             leaves.iter().flat_map(Leaf::bytes).collect()
         };
         let answer = self.read(rules, id, None, answer, out)?;
-        Ok(answer.len() as u32 / 29)
+        Ok((answer.len() / LEAF_BYTES) as u32)
     }
 
     /// "Its hashes are written, 16 bytes each, and their count answered."
@@ -358,7 +231,7 @@ impl Held {
     ) -> Result<u32, Refusal> {
         let answer = |document: &Document| document.path(revision).concat();
         let answer = self.read(rules, id, Some(revision), answer, out)?;
-        Ok(answer.len() as u32 / 16)
+        Ok((answer.len() / HASH_BYTES) as u32)
     }
 
     /// "missing revisions 1, 15, 14". "The answer has one byte each, 0 known, 1 missing."
@@ -370,7 +243,7 @@ impl Held {
         out: &mut [u8],
     ) -> Result<u32, Refusal> {
         let document = rules.document(self, id);
-        let revisions = asked.chunks_exact(20).map(asked_revision);
+        let revisions = asked.chunks_exact(ASKED_BYTES).map(asked_revision);
         let answer: Vec<u8> = revisions
             .map(|revision| rules.is_missing(document, revision).into())
             .collect();
@@ -480,7 +353,7 @@ impl Held {
         let mut entries = Vec::new();
         let mut rows = Vec::new();
         for (id, document) in &self.documents {
-            let mut filled = [0; 32];
+            let mut filled = [0; ID_BYTES];
             filled[..id.len()].copy_from_slice(id);
             entries.push(Entry {
                 id_length: id.len() as u8,
@@ -499,7 +372,7 @@ impl Held {
                     kind,
                     parent_known: parent.is_some().into(),
                     zero: 0,
-                    parent_hash: parent.map_or([0; 16], |parent| parent.hash),
+                    parent_hash: parent.map_or([0; HASH_BYTES], |parent| parent.hash),
                     label,
                 });
             }
@@ -623,6 +496,17 @@ impl fmt::Display for DocumentLine {
     }
 }
 
+/// Digits of the longest number, 4,294,967,295.
+const DIGITS: usize = 10;
+
+/// No report is longer: no number has more digits, and no id more bytes, two digits each.
+pub const REPORT_MOST: usize = HEAD_LINE_MOST + DOCUMENTS * DOCUMENT_LINE_MOST;
+
+const HEAD_LINE_MOST: usize = "seq  documents  revisions \n".len() + 3 * DIGITS;
+
+const DOCUMENT_LINE_MOST: usize =
+    " seq  winner - leaves  conflicts \n".len() + 2 * ID_BYTES + 2 * HASH_BYTES + 4 * DIGITS;
+
 /// Bytes in lower-case hex.
 pub fn hex(bytes: &[u8]) -> String {
     bytes.iter().map(|byte| format!("{byte:02x}")).collect()
@@ -657,9 +541,12 @@ fn text(rules: &dyn Rules, image: &[u8]) -> String {
     head.to_string() + &lines.collect::<String>()
 }
 
-/// "It reads an image from standard input and only reports. Input past 26,001 bytes is not read."
+/// "Input past 26,001 bytes is not read."
+const READ_MOST: usize = IMAGE_MOST + 1;
+
+/// "It reads an image from standard input and only reports."
 fn report(rules: &dyn Rules, image: &[u8], out: &mut [u8]) -> Result<u32, Refusal> {
-    let read = &image[..image.len().min(26_001)];
+    let read = &image[..image.len().min(READ_MOST)];
     let answer = text(rules, read).into_bytes();
     lend_whole(rules, &answer, out)?;
     Ok(answer.len() as u32)

@@ -1,8 +1,10 @@
 //! What scenarios and images are made of: ids, hashes and paths from small alphabets, so that the
 //! same revisions meet again and again, fit, cross and join.
 
-use crate::model::{Document, Hash, Model};
+use crate::held::{Document, Hash};
+use crate::model::Model;
 use crate::random::Random;
+use crate::sizes::{HASH_BYTES, ID_BYTES};
 use crate::Content;
 
 /// A path write in parts.
@@ -25,14 +27,19 @@ pub struct Alphabet {
 
 /// A hash of that first byte, the rest zeros.
 pub fn hash(first: u8) -> Hash {
-    let mut hash = [0; 16];
+    let mut hash = [0; HASH_BYTES];
     hash[0] = first;
     hash
 }
 
+/// The bytes of a path whose hashes are given by their first bytes.
+pub fn path(first_bytes: &[u8]) -> Vec<u8> {
+    first_bytes.iter().copied().flat_map(hash).collect()
+}
+
 /// A hash of zeros but for its last byte.
 fn low_hash(last: u8) -> Hash {
-    let mut hash = [0; 16];
+    let mut hash = [0; HASH_BYTES];
     hash[15] = last;
     hash
 }
@@ -47,10 +54,10 @@ fn all_ids() -> Vec<Vec<u8>> {
         b"ab".to_vec(),
         b"b".to_vec(),
         b"\0".to_vec(),
-        vec![0; 32],
+        vec![0; ID_BYTES],
         vec![0xff],
-        vec![b'z'; 31],
-        vec![b'z'; 32],
+        vec![b'z'; ID_BYTES - 1],
+        vec![b'z'; ID_BYTES],
     ]
 }
 

@@ -3,8 +3,9 @@
 //! They stand in a trait so that a wrong model can be the right one with one rule replaced. The
 //! right rule is always the default.
 
-use crate::layout::{image_bytes, Entry, Head, Image, Row};
-use crate::model::{Base, Document, Edit, Given, Hash, Held, Leaf, Revision};
+use crate::held::{Base, Document, Edit, Given, Hash, Held, Leaf, Revision};
+use crate::layout::{image_bytes, Entry, Head, Image, Row, HEAD_BYTES};
+use crate::sizes::{ASKED_BYTES, DOCUMENTS, HASH_BYTES, ID_BYTES, PATH_HASHES, REVISIONS};
 use crate::{Content, Refusal};
 use std::cmp::Ordering;
 use std::collections::BTreeSet;
@@ -18,24 +19,24 @@ impl Rules for House {}
 pub trait Rules {
     // What a replica holds
 
-    /// "A document has an id of 1 to 32 bytes, each byte free."
+    /// See [`ID_BYTES`].
     fn most_id_bytes(&self) -> usize {
-        32
+        ID_BYTES
     }
 
-    /// "Room: 32 documents and 512 revisions in all documents together."
+    /// See [`DOCUMENTS`].
     fn most_documents(&self) -> usize {
-        32
+        DOCUMENTS
     }
 
-    /// See [`Rules::most_documents`].
+    /// See [`REVISIONS`].
     fn most_revisions(&self) -> usize {
-        512
+        REVISIONS
     }
 
-    /// "not 1 to 512 hashes".
+    /// See [`PATH_HASHES`].
     fn most_hashes(&self) -> usize {
-        512
+        PATH_HASHES
     }
 
     /// Two ids are the same document exactly if they are the same bytes.
@@ -164,12 +165,13 @@ pub trait Rules {
 
     /// 2: "path bytes not a multiple of 16, or not 1 to 512 hashes".
     fn bad_path(&self, path: &[u8]) -> bool {
-        !path.len().is_multiple_of(16) || !(1..=self.most_hashes()).contains(&(path.len() / 16))
+        let hashes = path.len() / HASH_BYTES;
+        !path.len().is_multiple_of(HASH_BYTES) || !(1..=self.most_hashes()).contains(&hashes)
     }
 
     /// 3: "number smaller than the count of hashes".
     fn number_too_small(&self, given: &Given) -> bool {
-        (given.number as usize) < given.path.len() / 16
+        (given.number as usize) < given.path.len() / HASH_BYTES
     }
 
     /// 4: "a revision of the path has a known parent other than the one the path gives it (the
@@ -244,7 +246,7 @@ pub trait Rules {
 
     /// 15: "asked list not a multiple of 20 bytes".
     fn bad_asked(&self, asked: &[u8]) -> bool {
-        !asked.len().is_multiple_of(20)
+        !asked.len().is_multiple_of(ASKED_BYTES)
     }
 
     /// "An accepted call writes the answer at the front of the buffer and leaves the bytes after
@@ -341,7 +343,7 @@ pub trait Rules {
 
     /// 20: "fewer than 16 bytes".
     fn image_short(&self, bytes: &[u8]) -> bool {
-        bytes.len() < 16
+        bytes.len() < HEAD_BYTES
     }
 
     /// 21: "edition not 1".
@@ -436,7 +438,7 @@ pub trait Rules {
             || row.zero != 0
             || row.number == 0
             || (row.number == 1 && row.parent_known == 1)
-            || (row.parent_known == 0 && row.parent_hash != [0; 16])
+            || (row.parent_known == 0 && row.parent_hash != [0; HASH_BYTES])
             || (row.kind != 1 && row.label != 0)
     }
 

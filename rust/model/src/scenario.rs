@@ -1,115 +1,14 @@
-//! Scenarios: steps over three replicas, made from a seed, hostile ones among them.
+//! The scenarios of seeds: steps over three replicas, hostile ones among them.
 
-use crate::harness::{apply, IMAGE_MOST};
+use crate::harness::apply;
+use crate::held::Revision;
 use crate::images;
-use crate::model::{Hash, Model, Revision};
+use crate::model::Model;
 use crate::offers::{content, some_document, Alphabet};
 use crate::random::Random;
+use crate::sizes::{ASKED_BYTES, DOCUMENTS, HASH_BYTES, ID_BYTES, LEAF_BYTES, PATH_HASHES};
+use crate::steps::{Scenario, Step, REPLICAS};
 use crate::{Content, Replica};
-
-pub use crate::text::ParseError;
-
-pub const REPLICAS: usize = 3;
-
-/// One call on the replica `at`. A `room` is the length of the buffer that is lent to it.
-#[derive(Clone, PartialEq, Eq, Debug)]
-pub enum Step {
-    Fresh {
-        at: usize,
-    },
-    Load {
-        at: usize,
-        image: Vec<u8>,
-    },
-    Save {
-        at: usize,
-        room: usize,
-    },
-    Write {
-        at: usize,
-        id: Vec<u8>,
-        number: u32,
-        path: Vec<u8>,
-        content: Content,
-    },
-    Edit {
-        at: usize,
-        id: Vec<u8>,
-        hash: Hash,
-        content: Content,
-        parent: Option<(u32, Hash)>,
-    },
-    Winner {
-        at: usize,
-        id: Vec<u8>,
-        room: usize,
-    },
-    Leaves {
-        at: usize,
-        id: Vec<u8>,
-        room: usize,
-    },
-    Path {
-        at: usize,
-        id: Vec<u8>,
-        number: u32,
-        hash: Hash,
-        room: usize,
-    },
-    Missing {
-        at: usize,
-        id: Vec<u8>,
-        asked: Vec<u8>,
-        room: usize,
-    },
-    Changes {
-        at: usize,
-        after: u32,
-        room: usize,
-    },
-    Pull {
-        at: usize,
-        from: usize,
-        after: u32,
-    },
-    /// Saves a replica and loads what was saved.
-    Reload {
-        at: usize,
-        from: usize,
-    },
-    UpdateSequence {
-        at: usize,
-    },
-    Counts {
-        at: usize,
-    },
-    Report {
-        image: Vec<u8>,
-        room: usize,
-    },
-}
-
-impl Step {
-    /// The length of the buffer that is lent to the call, if it takes one.
-    pub fn room(&self) -> Option<usize> {
-        match self {
-            Step::Save { room, .. }
-            | Step::Winner { room, .. }
-            | Step::Leaves { room, .. }
-            | Step::Path { room, .. }
-            | Step::Missing { room, .. }
-            | Step::Changes { room, .. }
-            | Step::Report { room, .. } => Some(*room),
-            _ => None,
-        }
-    }
-}
-
-/// Steps to run one after the other on three fresh replicas.
-#[derive(Clone, PartialEq, Eq, Debug, Default)]
-pub struct Scenario {
-    pub steps: Vec<Step>,
-}
 
 /// The scenario of a seed.
 pub fn scenario(seed: u64) -> Scenario {
@@ -201,13 +100,13 @@ impl Writer {
     /// Paths about the most hashes, written and read back, and documents about the most documents.
     fn open_with_long_paths(&mut self) {
         let id = self.alphabet.id(&mut self.random);
-        for count in [511, 512, 513] {
+        for (at, count) in (PATH_HASHES - 1..=PATH_HASHES + 1).enumerate() {
             let path = (0..count).flat_map(|_| self.alphabet.hash(&mut self.random));
             let path = path.collect();
             let number = count as u32 + self.random.below(2) as u32;
             let content = content(&mut self.random);
             self.push(Step::Write {
-                at: count - 511,
+                at,
                 id: id.clone(),
                 number,
                 path,
@@ -217,7 +116,7 @@ impl Writer {
         for at in 0..2 {
             let held = self.replicas[at].held();
             let newest = held.documents[&id].leaves()[0].revision;
-            let room = 16 * held.revisions() - self.random.below(2);
+            let room = HASH_BYTES * held.revisions() - self.random.below(2);
             self.push(Step::Path {
                 at,
                 id: id.clone(),
@@ -226,7 +125,7 @@ impl Writer {
                 room,
             });
         }
-        for document in 0..33 {
+        for document in 0..=DOCUMENTS as u8 {
             let hash = self.alphabet.hash(&mut self.random);
             self.push(Step::Write {
                 at: 2,
@@ -272,7 +171,9 @@ impl Writer {
     /// An id that the replica holds, or one of the others does, or that may be new, or is refused.
     fn id(&mut self, at: usize) -> Vec<u8> {
         if self.random.percent(self.hostile) {
-            let length = *self.random.pick(&[0, 33, 33, 64]);
+            let length = *self
+                .random
+                .pick(&[0, ID_BYTES + 1, ID_BYTES + 1, 2 * ID_BYTES]);
             return self.random.bytes(length);
         }
         let holders = match self.random.below(10) {
@@ -343,13 +244,13 @@ impl Writer {
                 0 => path.clear(),
                 1 => path.push(0),
                 2 => drop(path.pop()),
-                3 => path = hash.repeat(512),
-                4 => path = hash.repeat(513),
+                3 => path = hash.repeat(PATH_HASHES),
+                4 => path = hash.repeat(PATH_HASHES + 1),
                 _ => path = hash.repeat(number.min(40) as usize + 1),
             }
         }
         if self.random.percent(self.hostile) {
-            let short = (path.len() as u32 / 16).saturating_sub(1);
+            let short = ((path.len() / HASH_BYTES) as u32).saturating_sub(1);
             number = *self.random.pick(&[0, short, u32::MAX]);
         }
         Step::Write {
@@ -399,7 +300,7 @@ impl Writer {
         Step::Winner {
             at,
             id: self.id(at),
-            room: self.room(29),
+            room: self.room(LEAF_BYTES),
         }
     }
 
@@ -410,7 +311,7 @@ impl Writer {
         Step::Leaves {
             at,
             id,
-            room: self.room(29 * count),
+            room: self.room(LEAF_BYTES * count),
         }
     }
 
@@ -424,7 +325,7 @@ impl Writer {
             id,
             number: revision.number,
             hash: revision.hash,
-            room: self.room(16 * count),
+            room: self.room(HASH_BYTES * count),
         }
     }
 
@@ -437,9 +338,9 @@ impl Writer {
             asked.extend(revision.number.to_be_bytes());
             asked.extend(revision.hash);
         }
-        let room = self.room(asked.len() / 20);
+        let room = self.room(asked.len() / ASKED_BYTES);
         if self.random.percent(self.hostile) {
-            let bytes = 1 + self.random.below(19);
+            let bytes = 1 + self.random.below(ASKED_BYTES - 1);
             asked.extend(self.random.bytes(bytes));
         }
         Step::Missing {
@@ -452,13 +353,13 @@ impl Writer {
 
     fn changes(&mut self, at: usize) -> Step {
         let after = self.sequence(at);
-        let mut id = [0; 32];
+        let mut id = [0; ID_BYTES];
         let change = self.replicas[at].changes(after, &mut id);
-        let length = change.ok().flatten().map_or(32, |change| change.id_len);
+        let length = change.ok().flatten().map(|change| change.id_len as usize);
         Step::Changes {
             at,
             after,
-            room: self.room(length as usize),
+            room: self.room(length.unwrap_or(ID_BYTES)),
         }
     }
 
@@ -486,11 +387,10 @@ impl Writer {
 
     fn report(&mut self, at: usize) -> Step {
         let image = self.image(at);
-        let mut text = vec![0; IMAGE_MOST];
-        let length = Model::report(&image, &mut text).expect("the longest report fits");
+        let length = images::report(&image).len();
         Step::Report {
             image,
-            room: self.room(length as usize),
+            room: self.room(length),
         }
     }
 }

@@ -2,7 +2,7 @@
 //! none). Empty lines and lines that begin with `#` say nothing.
 
 use crate::model::hex;
-use crate::scenario::{Scenario, Step, REPLICAS};
+use crate::steps::{Scenario, Step, REPLICAS};
 use crate::Content;
 use std::fmt;
 use std::str::{FromStr, SplitWhitespace};

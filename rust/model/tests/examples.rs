@@ -1,18 +1,15 @@
 //! The examples of the document: the fourteen proved ones, the ones that are run and compared only,
 //! and the listing of the check program.
 
-use refile_model::images::{self, lot, save};
-use refile_model::layout::Image;
-use refile_model::model::{hex, Model};
-use refile_model::offers::hash;
+use refile_model::images::{self, lot, report, save};
+use refile_model::layout::{image_bytes, Image, IMAGE_MOST};
+use refile_model::model::{hex, Model, REPORT_MOST};
+use refile_model::offers::{hash, path};
+use refile_model::sizes::{DOCUMENTS, HASH_BYTES, LEAF_BYTES, PATH_HASHES, REVISIONS};
 use refile_model::{Content, Refusal, Replica};
 use Content::{Deleted, Live};
 
 const LOT: &[u8] = b"lot";
-
-fn path(first_bytes: &[u8]) -> Vec<u8> {
-    first_bytes.iter().copied().flat_map(hash).collect()
-}
 
 /// Writes to document "lot" a path whose hashes are given by their first bytes.
 fn write(
@@ -32,7 +29,7 @@ fn sequence(replica: &Model) -> u32 {
     replica.update_sequence()
 }
 
-/// A leaf in its 29 bytes, by number and first byte of the hash: "2-91".
+/// A leaf, by number and first byte of the hash: "2-91".
 fn short(leaf: &[u8]) -> String {
     let number = u32::from_be_bytes(leaf[..4].try_into().unwrap());
     assert_eq!(leaf[5..20], [0; 15], "the rest of the hash is zeros");
@@ -40,21 +37,15 @@ fn short(leaf: &[u8]) -> String {
 }
 
 fn leaves(replica: &Model) -> Vec<String> {
-    let mut out = [0; 29 * 8];
+    let mut out = [0; LEAF_BYTES * 8];
     let count = replica.leaves(LOT, &mut out).unwrap() as usize;
-    out[..29 * count].chunks(29).map(short).collect()
+    out.chunks(LEAF_BYTES).take(count).map(short).collect()
 }
 
 fn winner(replica: &Model) -> String {
     let mut out = [0; 29];
     assert_eq!(replica.winner(LOT, &mut out), Ok(29));
     short(&out)
-}
-
-fn report(image: &[u8]) -> String {
-    let mut out = vec![0; 8192];
-    let length = Model::report(image, &mut out).unwrap() as usize;
-    String::from_utf8(out[..length].to_vec()).unwrap()
 }
 
 #[test]
@@ -145,43 +136,62 @@ fn the_listing_of_the_check_program() {
     assert_eq!(report(&[]), "refused 20 at 0\n");
 }
 
+/// The rules' own numbers, for a room of 32 documents, 512 revisions and 512 hashes. Whatever else
+/// is about the room takes it as it is.
 #[test]
-fn paths_of_512_and_513_hashes() {
-    let long = [0x11; 16 * 513];
-    let replica = &mut Model::fresh();
-    assert_eq!(replica.write(LOT, 513, &long, Live(1)), refused(2));
-    assert_eq!(replica.write(LOT, 512, &long[16..], Live(1)), Ok(true));
-    assert_eq!(replica.counts(), (1, 512));
-    let mut out = [0; 16 * 512];
-    assert_eq!(replica.path(LOT, 512, [0x11; 16], &mut out), Ok(512));
-    assert_eq!(out, [0x11; 16 * 512]);
+fn the_room() {
+    assert_eq!((DOCUMENTS, REVISIONS, PATH_HASHES), (32, 512, 512));
+    assert_eq!(IMAGE_MOST, 26_000);
+    assert_eq!(REPORT_MOST, 5_497);
+}
+
+/// So many hashes, all the same.
+fn long_path(hashes: usize) -> Vec<u8> {
+    [0x11; HASH_BYTES].repeat(hashes)
 }
 
 #[test]
-fn documents_32_and_33() {
+fn a_path_of_the_most_hashes_and_one_more() {
+    let most = PATH_HASHES as u32;
+    let (longest, longer) = (long_path(PATH_HASHES), long_path(PATH_HASHES + 1));
     let replica = &mut Model::fresh();
-    for id in 0..32 {
+    assert_eq!(replica.write(LOT, most + 1, &longer, Live(1)), refused(2));
+    assert_eq!(replica.write(LOT, most, &longest, Live(1)), Ok(true));
+    assert_eq!(replica.counts(), (1, most));
+    let mut out = vec![0; longest.len()];
+    let read = replica.path(LOT, most, [0x11; HASH_BYTES], &mut out);
+    assert_eq!(read, Ok(most));
+    assert_eq!(out, longest);
+}
+
+#[test]
+fn the_last_document_and_one_more() {
+    let replica = &mut Model::fresh();
+    let most = DOCUMENTS as u8;
+    for id in 0..most {
         let written = replica.write(&[id], 1, &hash(1), Live(0));
         assert_eq!(written, Ok(true));
     }
-    assert_eq!(replica.write(&[32], 1, &hash(1), Live(0)), refused(6));
-    assert_eq!(replica.edit(&[32], hash(1), Live(0), None), refused(6));
-    assert_eq!(replica.write(&[31], 1, &hash(2), Live(0)), Ok(true));
-    assert_eq!(replica.counts(), (32, 33));
+    assert_eq!(replica.write(&[most], 1, &hash(1), Live(0)), refused(6));
+    assert_eq!(replica.edit(&[most], hash(1), Live(0), None), refused(6));
+    assert_eq!(replica.write(&[most - 1], 1, &hash(2), Live(0)), Ok(true));
+    assert_eq!(replica.counts(), (most.into(), u32::from(most) + 1));
 }
 
 #[test]
-fn revisions_512_and_513() {
+fn the_last_revision_and_one_more() {
     let replica = &mut Model::fresh();
-    let long = [0x11; 16 * 511];
-    assert_eq!(replica.write(LOT, 511, &long, Live(1)), Ok(true));
+    for number in 1..REVISIONS as u32 {
+        let written = replica.write(LOT, number, &long_path(1), Live(1));
+        assert_eq!(written, Ok(true));
+    }
     assert_eq!(write(replica, 1, &[0x22, 0x23], Live(1)), refused(3));
     assert_eq!(write(replica, 2, &[0x22, 0x23], Live(1)), refused(7));
     assert_eq!(write(replica, 2, &[0x22], Live(1)), Ok(true));
     assert_eq!(write(replica, 3, &[0x22], Live(1)), refused(7));
     let on = Some((2, hash(0x22)));
     assert_eq!(replica.edit(LOT, hash(0x33), Live(1), on), refused(7));
-    assert_eq!(save(replica).len(), 16 + 44 + 48 * 512);
+    assert_eq!(save(replica).len(), image_bytes(1, REVISIONS));
 }
 
 #[test]
@@ -268,7 +278,8 @@ fn an_edit_on_the_last_number() {
 
 #[test]
 fn the_traps_by_name() {
-    let expected = [
+    let full = format!("seq {DOCUMENTS} documents {DOCUMENTS} revisions {REVISIONS}");
+    let expected: [(&str, &str); 20] = [
         ("empty", "refused 20 at 0"),
         ("one byte", "refused 20 at 0"),
         ("fifteen bytes", "refused 20 at 0"),
@@ -289,7 +300,7 @@ fn the_traps_by_name() {
             "seq 4294967295 documents 1 revisions 1",
         ),
         ("a bad row in the second document", "refused 25 at 1"),
-        ("full", "seq 32 documents 32 revisions 512"),
+        ("full", &full),
         ("full and a byte more", "refused 22 at 0"),
         ("far too long", "refused 22 at 0"),
     ];

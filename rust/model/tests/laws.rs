@@ -1,8 +1,10 @@
 //! Sentences of the document that speak of every replica, tried on those of many scenarios.
 
 use refile_model::harness::{apply, buffer, Answer};
-use refile_model::model::{Document, Held, Model, Revision};
-use refile_model::scenario::{scenario, Step, REPLICAS};
+use refile_model::held::{Document, Held, Revision};
+use refile_model::model::Model;
+use refile_model::scenario::scenario;
+use refile_model::steps::{Step, REPLICAS};
 use refile_model::{Content, Replica};
 
 const SCENARIOS: u64 = 500;
@@ -195,16 +197,6 @@ fn the_winner_is_live_if_a_leaf_is() {
     });
 }
 
-/// All that replicas agree on: everything but the sequences.
-fn shared(replica: &Model) -> Held {
-    let mut held = replica.held().clone();
-    held.sequence = 0;
-    for document in held.documents.values_mut() {
-        document.sequence = 0;
-    }
-    held
-}
-
 #[test]
 fn replicas_that_pull_without_refusal_agree() {
     let mut agreed = 0;
@@ -219,7 +211,7 @@ fn replicas_that_pull_without_refusal_agree() {
             refused += replicas[at].pull(&source, 0).refused;
         }
         if refused == 0 {
-            let [first, second, third] = replicas.each_ref().map(shared);
+            let [first, second, third] = replicas.each_ref().map(|r| r.held().without_sequences());
             assert!(first == second && first == third, "scenario {seed}");
             agreed += 1;
         }

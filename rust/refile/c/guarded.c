@@ -21,8 +21,8 @@
 
 #include "refile.h"
 
-#define PATH_MOST (REFILE_HASH_BYTES * REFILE_PATH_HASHES)
-#define LEAVES_MOST (REFILE_LEAF_BYTES * REFILE_REVISIONS)
+/* The bytes of the longest path that a write takes. */
+#define WRITTEN_MOST (REFILE_HASH_BYTES * REFILE_PATH_HASHES)
 
 enum round { BEFORE_A_GUARD, AFTER_A_GUARD, ON_THE_HEAP, ROUNDS };
 
@@ -151,10 +151,6 @@ static uint64_t answered(uint64_t result, const struct lent *out, size_t length)
         }
     }
     return result;
-}
-
-static uint32_t number_at(const uint8_t *bytes) {
-    return (uint32_t)bytes[0] << 24 | (uint32_t)bytes[1] << 16 | (uint32_t)bytes[2] << 8 | bytes[3];
 }
 
 /* Replicas */
@@ -309,12 +305,12 @@ static uint64_t leaves(const struct lent *replica, const struct lent *id, size_t
 
 static uint64_t path_of(const struct lent *replica, const struct lent *id, const uint8_t *revision,
                         size_t room, uint8_t *copy) {
-    struct lent hash = lend_input(revision + 4, REFILE_HASH_BYTES), out = lend(room);
+    struct lent hash = lend_input(refile_leaf_hash(revision), REFILE_HASH_BYTES), out = lend(room);
     uint64_t result;
 
     call("refile_path");
-    result = refile_path(replica->at, replica->length, id->at, id->length, number_at(revision),
-                         hash.at, hash.length, out.at, out.length);
+    result = refile_path(replica->at, replica->length, id->at, id->length,
+                         refile_leaf_number(revision), hash.at, hash.length, out.at, out.length);
     answered(result, &out, REFILE_HASH_BYTES * refile_value(result));
     keep(copy, &out, result);
     give_back(&hash);
@@ -348,10 +344,10 @@ static uint64_t changes(const struct lent *replica, uint32_t after, size_t id_ro
                             found.length);
     more = refile_refusal(result) == 0 && refile_value(result) == 1;
     answered(result, &found, more ? REFILE_CHANGES_BYTES : 0);
-    answered(result, &out, more ? number_at(found.at) : 0);
+    answered(result, &out, more ? refile_number_at(found.at, 0) : 0);
     if (more) {
         keep(numbers, &found, result);
-        memcpy(id, out.at, number_at(found.at));
+        memcpy(id, out.at, refile_number_at(found.at, 0));
     }
     give_back(&out);
     give_back(&found);
@@ -379,11 +375,11 @@ static void is_short(uint64_t result) {
 /* A leaf's path, whole and a byte short; then written again, on top of itself, and edited. */
 static void try_leaf(const struct lent *replica, struct lent *scratch, const struct lent *id,
                      const uint8_t *leaf) {
-    static uint8_t path[PATH_MOST + REFILE_HASH_BYTES];
+    static uint8_t path[REFILE_PATH_MOST + REFILE_HASH_BYTES];
     uint8_t *hashes = path + REFILE_HASH_BYTES;
-    uint32_t number = number_at(leaf), kind = leaf[20];
-    uint64_t label = (uint64_t)number_at(leaf + 21) << 32 | number_at(leaf + 25);
-    uint64_t count = refile_value(path_of(replica, id, leaf, PATH_MOST, NULL));
+    uint32_t number = refile_leaf_number(leaf), kind = refile_leaf_kind(leaf);
+    uint64_t label = refile_leaf_label(leaf);
+    uint64_t count = refile_value(path_of(replica, id, leaf, REFILE_PATH_MOST, NULL));
     size_t length = REFILE_HASH_BYTES * count;
 
     path_of(replica, id, leaf, length, hashes);
@@ -401,8 +397,8 @@ static void try_leaf(const struct lent *replica, struct lent *scratch, const str
 }
 
 static void try_document(const struct lent *replica, struct lent *scratch, const struct lent *id) {
-    static uint8_t all[LEAVES_MOST], asked[REFILE_ASKED_BYTES * (REFILE_REVISIONS + 1)];
-    uint64_t count = refile_value(leaves(replica, id, LEAVES_MOST, NULL));
+    static uint8_t all[REFILE_LEAVES_MOST], asked[REFILE_ASKED_BYTES * (REFILE_REVISIONS + 1)];
+    uint64_t count = refile_value(leaves(replica, id, REFILE_LEAVES_MOST, NULL));
     size_t asked_length = REFILE_ASKED_BYTES * (count + 1);
 
     leaves(replica, id, REFILE_LEAF_BYTES * count, all);
@@ -427,7 +423,7 @@ static void try_documents(const struct lent *replica, struct lent *scratch) {
     uint32_t after = 0;
 
     while (refile_value(changes(replica, after, sizeof id, sizeof numbers, id, numbers)) == 1) {
-        size_t length = number_at(numbers);
+        size_t length = refile_number_at(numbers, 0);
         struct lent lent_id = lend_input(id, length);
 
         changes(replica, after, length, sizeof numbers, id, numbers);
@@ -435,7 +431,7 @@ static void try_documents(const struct lent *replica, struct lent *scratch) {
         is_short(changes(replica, after, length, sizeof numbers - 1, id, numbers));
         try_document(replica, scratch, &lent_id);
         give_back(&lent_id);
-        after = number_at(numbers + 4);
+        after = refile_number_at(numbers, 1);
     }
     changes(replica, after, 0, 0, id, numbers);
 }
@@ -472,12 +468,53 @@ static void try_refused_load(const struct lent *image) {
     give_back(&replica);
 }
 
+/* Asks of so many bytes whether they are a replica. */
+static uint64_t is_replica(const uint8_t *bytes, size_t length) {
+    static const struct lent nothing;
+    struct lent asked = lend_input(bytes, length);
+    uint64_t result;
+
+    call("refile_is_replica");
+    result = answered(refile_is_replica(asked.at, asked.length), &nothing, 0);
+    give_back(&asked);
+    return result;
+}
+
+/* A replica is one; cut, or with a byte of the head, the contents or the first rows damaged, it may
+ * be read no further than it goes. The bytes of an image are asked about as they are, and at a
+ * replica's length. */
+static void try_is_replica(const struct lent *replica, const struct lent *image) {
+    uint8_t *bytes = copy_of(replica);
+    size_t rows = 16 + 44 * REFILE_DOCUMENTS;
+
+    expect(is_replica(bytes, replica->length) == 1, "a replica is none");
+    is_replica(bytes, replica->length - 1);
+    is_replica(bytes, rows);
+    is_replica(bytes, 0);
+    for (size_t at = 0; at < rows + 96; at += at < 60 || at >= rows ? 1 : 44 / 4) {
+        for (unsigned turned = 1; turned < 256; turned = 4 * turned + 3) {
+            bytes[at] ^= (uint8_t)turned;
+            is_replica(bytes, replica->length);
+            bytes[at] ^= (uint8_t)turned;
+        }
+    }
+    memset(bytes, 0xff, replica->length);
+    memcpy(bytes, image->at, image->length);
+    expect(is_replica(image->at, image->length) == 0, "an image is a replica");
+    expect(is_replica(bytes, replica->length) == 0, "an image is a replica");
+    memset(bytes, 0xff, replica->length);
+    memset(bytes, 0, 2);
+    expect(is_replica(bytes, replica->length) == 0, "noise is a replica");
+    free(bytes);
+}
+
 static void try_image(const uint8_t *bytes, size_t length) {
     struct lent image = lend_input(bytes, length), replica, scratch, empty;
 
     if (!try_load(&image, &replica)) {
         try_refused_load(&image);
     } else {
+        try_is_replica(&replica, &image);
         save(&replica, length);
         is_short(save(&replica, length - 1));
         totals(&replica, REFILE_COUNTS_BYTES);
@@ -498,17 +535,17 @@ static void try_image(const uint8_t *bytes, size_t length) {
 
 /* The longest path and id, one more of each, and nothing. */
 static void try_borders(void) {
-    static uint8_t path[PATH_MOST + REFILE_HASH_BYTES], id[REFILE_ID_BYTES + 1];
+    static uint8_t path[WRITTEN_MOST + REFILE_HASH_BYTES], id[REFILE_ID_BYTES + 1];
     struct lent replica = fresh(), nothing = lend_input(id, 0);
 
     for (size_t i = 0; i < sizeof path; i++) {
         path[i] = (uint8_t)(i / REFILE_HASH_BYTES);
     }
-    write_path(&replica, id, sizeof id, 600, path, PATH_MOST, REFILE_LIVE, 1);
-    write_path(&replica, id, 0, 600, path, PATH_MOST, REFILE_LIVE, 1);
-    write_path(&replica, id, sizeof id - 1, 600, path, sizeof path, REFILE_LIVE, 1);
-    write_path(&replica, id, sizeof id - 1, 600, path, 0, REFILE_LIVE, 1);
-    write_path(&replica, id, sizeof id - 1, 600, path, PATH_MOST, REFILE_LIVE, 1);
+    write_path(&replica, id, sizeof id, UINT32_MAX, path, WRITTEN_MOST, REFILE_LIVE, 1);
+    write_path(&replica, id, 0, UINT32_MAX, path, WRITTEN_MOST, REFILE_LIVE, 1);
+    write_path(&replica, id, sizeof id - 1, UINT32_MAX, path, sizeof path, REFILE_LIVE, 1);
+    write_path(&replica, id, sizeof id - 1, UINT32_MAX, path, 0, REFILE_LIVE, 1);
+    write_path(&replica, id, sizeof id - 1, UINT32_MAX, path, WRITTEN_MOST, REFILE_LIVE, 1);
     write_path(&replica, id, 1, 1, path, REFILE_HASH_BYTES, REFILE_LIVE, 1);
     winner(&replica, &nothing, REFILE_LEAF_BYTES, NULL);
     winner(&replica, &nothing, 0, NULL);

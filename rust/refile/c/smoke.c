@@ -1,5 +1,6 @@
 /* A smoke test of the C interface, from C: the proved examples, each refusal of a write, an edit and
- * a read, the house refusals, and the stored images of examples/. After every refused call the
+ * a read, the house refusals, NULL for every empty slice of every call, the texts, the functions that
+ * read answers, and the stored images of examples/. After every refused call the
  * replica and the lent buffer must be what they were; after an accepted one, the bytes behind the
  * answer. To compile and run it at the top of the repository:
  *
@@ -14,6 +15,10 @@
 #include <string.h>
 
 #include "refile.h"
+
+#if REFILE_PATH_HASHES != REFILE_REVISIONS
+#error "one path does not fill the room, as writes_are_refused takes it"
+#endif
 
 #define ID (const uint8_t *)"lot", 3
 
@@ -98,7 +103,7 @@ static uint64_t edit_lot(char hash, uint32_t kind, uint64_t label, uint32_t pare
 static uint64_t edit_alone(char hash, uint32_t kind, uint64_t label) {
     prepare();
     return refile_edit(replica, sizeof replica, ID, hashes(&hash, 1), REFILE_HASH_BYTES, kind,
-                       label, 0, 0, out, 0);
+                       label, 0, 0, NULL, 0);
 }
 
 static void fresh(void) { expect(is(refile_fresh(replica, sizeof replica), 0, 0), "fresh"); }
@@ -115,7 +120,7 @@ static void leaves_are(uint32_t count, uint32_t number, uint8_t first_byte, cons
     prepare();
     answered(refile_winner(replica, sizeof replica, ID, out, sizeof out), REFILE_LEAF_BYTES,
              REFILE_LEAF_BYTES, what);
-    expect(out[3] == number && out[4] == first_byte, what);
+    expect(refile_leaf_number(out) == number && refile_leaf_hash(out)[0] == first_byte, what);
 }
 
 static void cases_1_to_8(void) {
@@ -159,6 +164,208 @@ static void cases_9_to_14(void) {
     expect(memcmp(out, fresh_image, sizeof fresh_image) == 0, "case 14");
 }
 
+/* Of a replica that holds "lot" with one live revision: whether the byte is one of the id's, or of the
+ * revision's number, hash or label, so that turning one of its bits leaves another replica. */
+static bool may_be_anything(size_t at) {
+    size_t entry = 16, row = 16 + 44 * REFILE_DOCUMENTS;
+
+    return (at > entry && at <= entry + 3) || (at >= row && at < row + 20) ||
+           (at >= row + 40 && at < row + 48);
+}
+
+/* A buffer of zeros, bytes that are a replica, and bytes that are none. */
+static void replicas(void) {
+    memset(other, 0, sizeof other);
+    expect(refile_is_replica(other, sizeof other) == 1, "zeros are a replica");
+    fresh();
+    expect(memcmp(replica, other, sizeof replica) == 0, "zeros are a fresh replica");
+    expect(is(write_lot(1, "\x20", 1, REFILE_LIVE, 7), 0, 1), "a write");
+    memcpy(other, replica, sizeof other);
+    expect(refile_is_replica(other, sizeof other) == 1, "a copy of a replica is one");
+    expect(refile_is_replica(other, sizeof other - 1) == 0, "a byte short");
+    /* Every byte where something stands, and some of those that must be zero. */
+    for (size_t i = 0; i < sizeof other; i += i < 100 || (i >= 1400 && i < 1500) ? 1 : 50) {
+        other[i] ^= 0x40;
+        expect(refile_is_replica(other, sizeof other) == may_be_anything(i), "a bit turned");
+        other[i] ^= 0x40;
+    }
+}
+
+/* What the header says of lending: a replica at an odd address is as good as any, and what is only
+ * read may overlap, here an id inside the replica. And of traps: a path that comes oldest first, and an
+ * id with its closing NUL, are taken without a word. */
+static void lending(void) {
+    static uint8_t room[REFILE_REPLICA_BYTES + 1];
+    uint8_t *odd = room + ((uintptr_t)room % 2 == 0), counts[REFILE_COUNTS_BYTES];
+
+    fresh();
+    expect(is(write_lot(2, "\x91\x20", 2, REFILE_LIVE, 8), 0, 1), "newest first");
+    memcpy(odd, replica, sizeof replica);
+    expect(is(refile_winner(odd, sizeof replica, odd + 17, 3, out, sizeof out), 0, REFILE_LEAF_BYTES),
+           "an id inside a replica at an odd address");
+    expect(refile_leaf_hash(out)[0] == 0x91, "the winner of an id inside the replica");
+    expect(is(refile_write(odd, sizeof replica, (const uint8_t *)"lot", sizeof "lot", 1,
+                           hashes("\x20", 1), 16, REFILE_LIVE, 1),
+              0, 1),
+           "an id with its closing NUL");
+    expect(is(refile_counts(odd, sizeof replica, counts, sizeof counts), 0, 0), "counts");
+    expect(refile_number_at(counts, 0) == 2 && refile_number_at(counts, 1) == 3,
+           "an id with its closing NUL is another document");
+    expect(is(write_lot(2, "\x20\x91", 2, REFILE_LIVE, 8), 0, 1), "oldest first");
+    leaves_are(2, 2, 0x91, "oldest first is another history");
+}
+
+/* Every call but fresh and load refuses a buffer that an image was read into, whatever else is wrong. */
+static void images_are_not_lent(void) {
+    uint8_t numbers[REFILE_CHANGES_BYTES];
+
+    fresh();
+    memcpy(other, replica, sizeof other);
+    memset(replica, 0, sizeof replica);
+    for (size_t first = 0; first < 2; first++) {
+        replica[1 - first] = 0;
+        replica[first] = 1;
+        prepare();
+        expect(refile_is_replica(replica, sizeof replica) == 0, "an image is no replica");
+        refused(refile_save(replica, sizeof replica, out, 0), REFILE_IMAGE_LENT, "save");
+        refused(refile_write(replica, sizeof replica, NULL, 0, 0, NULL, 0, 3, 1),
+                REFILE_IMAGE_LENT, "write");
+        refused(refile_edit(replica, sizeof replica, NULL, 0, NULL, 0, 3, 1, 2, 1, NULL, 0),
+                REFILE_IMAGE_LENT, "edit");
+        refused(refile_winner(replica, sizeof replica, NULL, 0, out, 0), REFILE_IMAGE_LENT, "winner");
+        refused(refile_leaves(replica, sizeof replica, NULL, 0, out, 0), REFILE_IMAGE_LENT, "leaves");
+        refused(refile_path(replica, sizeof replica, NULL, 0, 0, NULL, 0, out, 0),
+                REFILE_IMAGE_LENT, "path");
+        refused(refile_missing(replica, sizeof replica, NULL, 0, out, 1, out, 0), REFILE_IMAGE_LENT,
+                "missing");
+        refused(refile_changes(replica, sizeof replica, 0, out, 0, numbers, 0), REFILE_IMAGE_LENT,
+                "changes");
+        refused(refile_pull(replica, sizeof replica, other, sizeof other, 0, out, 0),
+                REFILE_IMAGE_LENT, "pull, target");
+        refused(refile_pull(other, sizeof other, replica, sizeof replica, 0, out, 0),
+                REFILE_IMAGE_LENT, "pull, source");
+        refused(refile_pull(replica, sizeof replica, other, sizeof other - 1, 0, out, 0),
+                REFILE_IMAGE_LENT, "pull, the target before a source of another size");
+        refused(refile_pull(other, sizeof other - 1, replica, sizeof replica, 0, out, 0),
+                REFILE_BAD_REPLICA, "pull, a target of another size before the source");
+        refused(refile_update_sequence(replica, sizeof replica), REFILE_IMAGE_LENT, "sequence");
+        refused(refile_counts(replica, sizeof replica, out, 0), REFILE_IMAGE_LENT, "counts");
+        expect(is(refile_load(replica, sizeof replica, NULL, 0), REFILE_IMAGE_SHORT, 0), "load");
+    }
+    fresh();
+}
+
+/* NULL with length 0 is an empty slice, for every slice of every call; here of those that write to a
+ * replica or take none. */
+static void null_is_written(void) {
+    static const char report[] = "refused 20 at 0\n";
+    uint8_t hash[REFILE_HASH_BYTES] = {0x20};
+
+    prepare();
+    refused(refile_fresh(NULL, 0), REFILE_BAD_REPLICA, "fresh");
+    expect(refile_is_replica(NULL, 0) == 0, "is_replica");
+    refused(refile_load(NULL, 0, NULL, 0), REFILE_BAD_REPLICA, "load");
+    expect(is(refile_load(replica, sizeof replica, NULL, 0), REFILE_IMAGE_SHORT, 0), "load, image");
+    refused(refile_save(NULL, 0, NULL, 0), REFILE_BAD_REPLICA, "save");
+    refused(refile_save(replica, sizeof replica, NULL, 0), REFILE_SHORT_BUFFER, "save, out");
+    refused(refile_write(NULL, 0, NULL, 0, 1, NULL, 0, 1, 1), REFILE_BAD_REPLICA, "write");
+    refused(refile_write(replica, sizeof replica, NULL, 0, 1, hash, 16, 1, 1), REFILE_ID, "write, id");
+    refused(refile_write(replica, sizeof replica, ID, 1, NULL, 0, 1, 1), REFILE_PATH, "write, path");
+    refused(refile_edit(NULL, 0, NULL, 0, NULL, 0, 1, 1, 0, 0, NULL, 0), REFILE_BAD_REPLICA, "edit");
+    refused(refile_edit(replica, sizeof replica, NULL, 0, hash, 16, 1, 1, 0, 0, NULL, 0), REFILE_ID,
+            "edit, id and parent");
+    refused(refile_edit(replica, sizeof replica, ID, NULL, 0, 1, 1, 1, 1, hash, 16), REFILE_BAD_HASH,
+            "edit, hash");
+    refused(refile_edit(replica, sizeof replica, ID, hash, 16, 1, 1, 1, 1, NULL, 0), REFILE_BAD_HASH,
+            "edit, a named parent's hash");
+    refused(refile_pull(NULL, 0, replica, sizeof replica, 0, NULL, 0), REFILE_BAD_REPLICA, "pull");
+    refused(refile_pull(replica, sizeof replica, NULL, 0, 0, NULL, 0), REFILE_BAD_REPLICA,
+            "pull, source");
+    memcpy(other, replica, sizeof other);
+    refused(refile_pull(replica, sizeof replica, other, sizeof other, 0, NULL, 0),
+            REFILE_SHORT_BUFFER, "pull, answer");
+    refused(refile_report(NULL, 0, NULL, 0), REFILE_SHORT_BUFFER, "report");
+    answered(refile_report(NULL, 0, out, sizeof out), sizeof report - 1, sizeof report - 1, "report");
+    expect(memcmp(out, report, sizeof report - 1) == 0, "report");
+}
+
+/* And of those that read one. */
+static void null_is_read(void) {
+    uint8_t hash[REFILE_HASH_BYTES] = {0x20}, asked[REFILE_ASKED_BYTES] = {0};
+    uint8_t numbers[REFILE_CHANGES_BYTES];
+
+    prepare();
+    refused(refile_winner(NULL, 0, NULL, 0, NULL, 0), REFILE_BAD_REPLICA, "winner");
+    refused(refile_winner(replica, sizeof replica, NULL, 0, NULL, 0), REFILE_ID, "winner, id");
+    refused(refile_winner(replica, sizeof replica, ID, NULL, 0), REFILE_SHORT_BUFFER, "winner, out");
+    refused(refile_leaves(NULL, 0, NULL, 0, NULL, 0), REFILE_BAD_REPLICA, "leaves");
+    refused(refile_leaves(replica, sizeof replica, NULL, 0, NULL, 0), REFILE_ID, "leaves, id");
+    refused(refile_leaves(replica, sizeof replica, ID, NULL, 0), REFILE_SHORT_BUFFER, "leaves, out");
+    refused(refile_path(NULL, 0, NULL, 0, 1, NULL, 0, NULL, 0), REFILE_BAD_REPLICA, "path");
+    refused(refile_path(replica, sizeof replica, NULL, 0, 1, hash, 16, NULL, 0), REFILE_ID, "path, id");
+    refused(refile_path(replica, sizeof replica, ID, 1, NULL, 0, NULL, 0), REFILE_BAD_HASH,
+            "path, hash");
+    refused(refile_path(replica, sizeof replica, ID, 1, hash, 16, NULL, 0), REFILE_SHORT_BUFFER,
+            "path, out");
+    refused(refile_missing(NULL, 0, NULL, 0, NULL, 0, NULL, 0), REFILE_BAD_REPLICA, "missing");
+    refused(refile_missing(replica, sizeof replica, NULL, 0, NULL, 0, NULL, 0), REFILE_ID,
+            "missing, id");
+    answered(refile_missing(replica, sizeof replica, ID, NULL, 0, NULL, 0), 0, 0, "missing, nothing");
+    refused(refile_missing(replica, sizeof replica, ID, asked, 20, NULL, 0), REFILE_SHORT_BUFFER,
+            "missing, out");
+    refused(refile_changes(NULL, 0, 0, NULL, 0, NULL, 0), REFILE_BAD_REPLICA, "changes");
+    refused(refile_changes(replica, sizeof replica, 0, NULL, 0, numbers, 16), REFILE_SHORT_BUFFER,
+            "changes, out");
+    refused(refile_changes(replica, sizeof replica, 0, out, 3, NULL, 0), REFILE_SHORT_BUFFER,
+            "changes, answer");
+    answered(refile_changes(replica, sizeof replica, 1, NULL, 0, NULL, 0), 0, 0, "no more changes");
+    refused(refile_update_sequence(NULL, 0), REFILE_BAD_REPLICA, "sequence");
+    refused(refile_counts(NULL, 0, NULL, 0), REFILE_BAD_REPLICA, "counts");
+    refused(refile_counts(replica, sizeof replica, NULL, 0), REFILE_SHORT_BUFFER, "counts, answer");
+}
+
+static void null_is_empty(void) {
+    fresh();
+    expect(is(write_lot(1, "\x20", 1, REFILE_LIVE, 7), 0, 1), "a write");
+    null_is_written();
+    null_is_read();
+}
+
+/* Every number has a line of its own; 0 and a number that is none have theirs. */
+static void texts(void) {
+    static const uint32_t numbers[] = {
+#define NUMBER(name, text) name,
+        REFILE_TEXTS(NUMBER)
+#undef NUMBER
+    };
+    size_t count = sizeof numbers / sizeof *numbers;
+
+    expect(count == 29, "a text for each of 1 to 15, 20 to 26 and 100 to 106");
+    for (size_t i = 0; i < count; i++) {
+        expect(strchr(refile_text(numbers[i]), ';') != NULL, "what happened; what to do next");
+        for (size_t j = 0; j < i; j++) {
+            expect(numbers[j] < numbers[i], "the texts in the order of their numbers");
+            expect(strcmp(refile_text(numbers[i]), refile_text(numbers[j])) != 0, "texts differ");
+        }
+    }
+    expect(strcmp(refile_text(0), "accepted") == 0, "the text of 0");
+    expect(strcmp(refile_text(16), refile_text(999)) == 0, "the text of no refusal");
+    expect(refile_belongs(), "header and archive are of one version");
+}
+
+/* What the functions that read an answer make of it. */
+static void answers_are_read(void) {
+    static const uint8_t bytes[2 * REFILE_LEAF_BYTES] = {
+        [29] = 0x81, 0x02, 0x03, 0x04, 0x99, [48] = 0x77, 0x01, 0xf1, 2, 3, 4, 5, 6, 7, 0xf8};
+    const uint8_t *leaf = refile_leaf_at(bytes, 1);
+
+    expect(refile_number_at(bytes + 25, 1) == 0x81020304u, "a number of an answer");
+    expect(refile_leaf_number(leaf) == 0x81020304u, "a leaf's number");
+    expect(refile_leaf_hash(leaf)[0] == 0x99 && refile_leaf_hash(leaf)[15] == 0x77, "a leaf's hash");
+    expect(refile_leaf_kind(leaf) == REFILE_LIVE, "a leaf's kind");
+    expect(refile_leaf_label(leaf) == 0xf1020304050607f8u, "a leaf's label");
+}
+
 static void writes_are_refused(void) {
     static const uint8_t long_id[REFILE_ID_BYTES + 1];
     static uint8_t long_path[REFILE_HASH_BYTES * (REFILE_PATH_HASHES + 1)];
@@ -175,26 +382,28 @@ static void writes_are_refused(void) {
             REFILE_ID, "an empty id");
     refused(refile_write(replica, sizeof replica, long_id, sizeof long_id, 1, one, 16, REFILE_LIVE,
                          1),
-            REFILE_ID, "an id of 33 bytes");
+            REFILE_ID, "an id that is too long");
     refused(refile_write(replica, sizeof replica, ID, 1, one, 15, REFILE_LIVE, 1), REFILE_PATH,
             "a path of 15 bytes");
     refused(refile_write(replica, sizeof replica, ID, 1, one, 0, REFILE_LIVE, 1), REFILE_PATH,
             "an empty path");
-    refused(refile_write(replica, sizeof replica, ID, 600, long_path, sizeof long_path, REFILE_LIVE,
-                         1),
-            REFILE_PATH, "a path of 513 hashes");
-    expect(is(refile_write(replica, sizeof replica, ID, 600, long_path, sizeof long_path - 16,
-                           REFILE_LIVE, 1),
+    refused(refile_write(replica, sizeof replica, ID, UINT32_MAX, long_path, sizeof long_path,
+                         REFILE_LIVE, 1),
+            REFILE_PATH, "a path of one hash too many");
+    expect(is(refile_write(replica, sizeof replica, ID, UINT32_MAX, long_path,
+                           sizeof long_path - REFILE_HASH_BYTES, REFILE_LIVE, 1),
               0, 1),
-           "a path of 512 hashes");
-    refused(write_lot(1, "\x20", 1, REFILE_LIVE, 1), REFILE_NO_REVISION_ROOM, "revision 513");
+           "a path of the most hashes");
+    refused(write_lot(1, "\x20", 1, REFILE_LIVE, 1), REFILE_NO_REVISION_ROOM,
+            "one revision too many");
     fresh();
     for (uint8_t id = 0; id < REFILE_DOCUMENTS; id++) {
         one = hashes("\x20", 1);
         expect(is(refile_write(replica, sizeof replica, &id, 1, 1, one, 16, REFILE_LIVE, 0), 0, 1),
-               "32 documents");
+               "as many documents as there is room for");
     }
-    refused(write_lot(1, "\x20", 1, REFILE_LIVE, 1), REFILE_NO_DOCUMENT_ROOM, "document 33");
+    refused(write_lot(1, "\x20", 1, REFILE_LIVE, 1), REFILE_NO_DOCUMENT_ROOM,
+            "one document too many");
 }
 
 static void edits_are_refused(void) {
@@ -333,6 +542,12 @@ int main(int argc, char **argv) {
     cases_9_to_14();
     writes_are_refused();
     edits_are_refused();
+    replicas();
+    lending();
+    images_are_not_lent();
+    null_is_empty();
+    texts();
+    answers_are_read();
     for (int i = 1; i < argc; i += 2) {
         image_is(argv[i], argv[i + 1]);
     }

@@ -1,8 +1,7 @@
 /* Two offices that replicate both ways: loads two images, pulls each into the other, saves both, and
  * says what a person should read. The Rust example examples/two_offices.rs does the same.
  *
- * To compile and run it at the top of the repository, once `rt staticlib refile` has made the
- * archive:
+ * To compile and run it in the folder that holds include and rust, with the archive made:
  *
  *     cc -std=c11 -Wall -Wextra -O2 -Iinclude -o target/two_offices \
  *         rust/refile/c/two_offices.c target/staticlib/librefile.a
@@ -10,10 +9,12 @@
  *     target/two_offices NORTH SOUTH                      (two images)
  *     target/two_offices NORTH SOUTH NEW-NORTH NEW-SOUTH
  *
- * The images that are read are never written to; the merged ones go to the two new files, if these
- * are named. Exit status: 0 the offices agree, 1 they don't or an image is refused, 2 a file can't be
- * read or written.
+ * The merged images go to the two new files, if these are named. No file that is already there is
+ * ever written to, be it an image that was read or not: both new files are made before either is
+ * written, and where one of them can't be, nothing is saved. Exit status: 0 the offices agree, 1 they
+ * don't or an image is refused, 2 a file can't be read or written, and standard error says which.
  */
+#include <errno.h>
 #include <stdbool.h>
 #include <stdio.h>
 #include <stdlib.h>
@@ -38,14 +39,11 @@ static struct office south = {.name = "South"};
 /* The value of a call that this program gives no cause to refuse. */
 static uint32_t sure(uint64_t result) {
     if (refile_refusal(result) != 0) {
-        fprintf(stderr, "two_offices: refused %u\n", (unsigned)refile_refusal(result));
+        fprintf(stderr, "two_offices: refused %u: %s\n", (unsigned)refile_refusal(result),
+                refile_text(refile_refusal(result)));
         exit(2);
     }
     return (uint32_t)refile_value(result);
-}
-
-static uint32_t number_at(const uint8_t *bytes) {
-    return (uint32_t)bytes[0] << 24 | (uint32_t)bytes[1] << 16 | (uint32_t)bytes[2] << 8 | bytes[3];
 }
 
 static void read_image(const char *path, struct bytes *image) {
@@ -62,13 +60,76 @@ static void read_image(const char *path, struct bytes *image) {
     fclose(file);
 }
 
-static void write_image(const char *path, const struct bytes *image) {
-    FILE *file = fopen(path, "wb");
-    if (file == NULL || fwrite(image->at, 1, image->length, file) != image->length ||
-        fclose(file) != 0) {
-        perror(path);
+/* Sees that what was printed has arrived, which it must before anything is saved. */
+static void flush_output(const char *then) {
+    if (fflush(stdout) != 0 || ferror(stdout)) {
+        fprintf(stderr, "two_offices: standard output can't be written: %s.%s\n", strerror(errno), then);
         exit(2);
     }
+}
+
+/* Makes a file that was not there before: the x of the mode refuses every other. */
+static FILE *make_file(const char *path) {
+    FILE *file = fopen(path, "wbx");
+
+    if (file == NULL) {
+        fprintf(stderr, "two_offices: %s is there already or can't be made: %s.\n", path,
+                strerror(errno));
+    }
+    return file;
+}
+
+/* Takes away a file that this program made and that is not whole. */
+static void unmake_file(const char *path) {
+    if (remove(path) != 0) {
+        fprintf(stderr, "two_offices: %s is not whole, and can't be removed: %s. Don't use it.\n", path,
+                strerror(errno));
+    }
+}
+
+/* Writes the image and closes the file, and answers whether all of it arrived; else no file of that
+ * name is left. */
+static bool write_image(FILE *file, const char *path, const struct bytes *image) {
+    bool written = fwrite(image->at, 1, image->length, file) == image->length;
+    int error;
+
+    written = fflush(file) == 0 && written;
+    error = errno;
+    if (fclose(file) != 0 && written) {
+        written = false;
+        error = errno;
+    }
+    if (!written) {
+        fprintf(stderr, "two_offices: %s can't be written: %s.\n", path, strerror(error));
+        unmake_file(path);
+    }
+    return written;
+}
+
+/* Saves both offices, or ends the program with a word about each file. */
+static void save_both(const char *north_path, const char *south_path) {
+    FILE *north_file = make_file(north_path);
+    FILE *south_file = north_file == NULL ? NULL : make_file(south_path);
+
+    if (south_file == NULL) {
+        if (north_file != NULL) {
+            fclose(north_file);
+            unmake_file(north_path);
+        }
+        fprintf(stderr, "two_offices: nothing was saved.\n");
+        exit(2);
+    }
+    if (!write_image(north_file, north_path, &north.image)) {
+        fclose(south_file);
+        unmake_file(south_path);
+        fprintf(stderr, "two_offices: nothing was saved.\n");
+        exit(2);
+    }
+    if (!write_image(south_file, south_path, &south.image)) {
+        fprintf(stderr, "two_offices: North is saved as %s, and South is not saved.\n", north_path);
+        exit(2);
+    }
+    printf("Saved as %s and %s.\n", north_path, south_path);
 }
 
 static void save(struct office *office) {
@@ -89,8 +150,8 @@ static bool load(struct office *office) {
         return false;
     }
     sure(refile_counts(office->replica, sizeof office->replica, counts, sizeof counts));
-    printf("%s holds %u documents and %u revisions.\n", office->name, (unsigned)number_at(counts),
-           (unsigned)number_at(counts + 4));
+    printf("%s holds %u documents and %u revisions.\n", office->name,
+           (unsigned)refile_number_at(counts, 0), (unsigned)refile_number_at(counts, 1));
     return true;
 }
 
@@ -100,10 +161,10 @@ static void pull(struct office *target, const struct office *source) {
 
     sure(refile_pull(target->replica, sizeof target->replica, source->replica,
                      sizeof source->replica, 0, counts, sizeof counts));
-    refused = number_at(counts + 8);
+    refused = refile_number_at(counts, 2);
     printf("%s pulled from %s: %u offers changed it, %u changed nothing, %u were refused.\n",
-           target->name, source->name, (unsigned)number_at(counts),
-           (unsigned)number_at(counts + 4), (unsigned)refused);
+           target->name, source->name, (unsigned)refile_number_at(counts, 0),
+           (unsigned)refile_number_at(counts, 1), (unsigned)refused);
     if (refused > 0) {
         printf("  SOMETHING OF %s IS NOT IN %s: a refused offer is counted and not stored.\n",
                source->name, target->name);
@@ -144,13 +205,12 @@ static void tell_document(const struct office *office, const uint8_t *id, uint32
             printf("\\x%02x", id[i]);
         }
     }
-    printf(": winner %u-", (unsigned)number_at(winner));
+    printf(": winner %u-", (unsigned)refile_leaf_number(winner));
     for (uint32_t i = 0; i < REFILE_HASH_BYTES; i++) {
-        printf("%02x", winner[4 + i]);
+        printf("%02x", refile_leaf_hash(winner)[i]);
     }
-    if (winner[20] == REFILE_LIVE) {
-        uint64_t label = (uint64_t)number_at(winner + 21) << 32 | number_at(winner + 25);
-        printf(", label %llu", (unsigned long long)label);
+    if (refile_leaf_kind(winner) == REFILE_LIVE) {
+        printf(", label %llu", (unsigned long long)refile_leaf_label(winner));
     } else {
         printf(", deleted");
     }
@@ -164,8 +224,8 @@ static void tell_documents(const struct office *office) {
     printf("%s's documents now:\n", office->name);
     while (sure(refile_changes(office->replica, sizeof office->replica, after, id, sizeof id,
                                change, sizeof change)) == 1) {
-        tell_document(office, id, number_at(change), number_at(change + 8));
-        after = number_at(change + 4);
+        tell_document(office, id, refile_number_at(change, 0), refile_number_at(change, 2));
+        after = refile_number_at(change, 1);
     }
 }
 
@@ -200,27 +260,37 @@ static void make_small_offices(void) {
     save(&south);
 }
 
-int main(int argc, char **argv) {
-    bool same;
-
+/* Reads the two images that are named, or makes two. */
+static void take_in(int argc, char **argv) {
+    if (!refile_belongs()) {
+        fprintf(stderr, "two_offices: the header and the archive are of different versions.\n");
+        exit(2);
+    }
+    if (argc != 1 && argc != 3 && argc != 5) {
+        fprintf(stderr, "two_offices: name two images, or two images and two new files.\n");
+        exit(2);
+    }
+    if (argc == 5 && strcmp(argv[3], argv[4]) == 0) {
+        fprintf(stderr, "two_offices: both new files are named %s: name two. Nothing was done.\n",
+                argv[3]);
+        exit(2);
+    }
     if (argc == 1) {
         make_small_offices();
-    } else if (argc == 3 || argc == 5) {
+    } else {
         read_image(argv[1], &north.image);
         read_image(argv[2], &south.image);
-    } else {
-        fprintf(stderr, "two_offices: name two images, or two images and two new files\n");
-        return 2;
     }
+}
 
-    if (!load(&north) || !load(&south)) {
-        return 1;
-    }
+/* Pulls both ways, tells what came of it, and answers whether the offices agree. */
+static bool merge(void) {
+    bool same;
+
     pull(&south, &north);
     pull(&north, &south);
     save(&north);
     save(&south);
-
     same = agree();
     if (same) {
         printf("The offices agree: same documents, revisions, parents and contents.\n");
@@ -229,10 +299,22 @@ int main(int argc, char **argv) {
                "offers.\n");
     }
     tell_documents(&north);
-    if (argc == 5) {
-        write_image(argv[3], &north.image);
-        write_image(argv[4], &south.image);
-        printf("Saved as %s and %s.\n", argv[3], argv[4]);
+    return same;
+}
+
+int main(int argc, char **argv) {
+    bool same = false;
+    bool loaded;
+
+    take_in(argc, argv);
+    loaded = load(&north) && load(&south);
+    if (loaded) {
+        same = merge();
+    }
+    flush_output(argc == 5 ? " Nothing was saved." : "");
+    if (loaded && argc == 5) {
+        save_both(argv[3], argv[4]);
+        flush_output(" Both offices are saved.");
     }
     return same ? 0 : 1;
 }

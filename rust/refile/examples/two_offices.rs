@@ -7,12 +7,13 @@
 //! cargo run --example two_offices -- NORTH SOUTH NEW-NORTH NEW-SOUTH
 //! ```
 //!
-//! The images that are read are never written to; the merged ones go to the two new files, if these
-//! are named. Exit status: 0 the offices agree, 1 they don't or an image is refused, 2 a file can't
-//! be read or written.
+//! The merged images go to the two new files, if these are named. No file that is already there is
+//! ever written to, be it an image that was read or not: both new files are made before either is
+//! written, and where one of them can't be, nothing is saved. Exit status: 0 the offices agree, 1 they
+//! don't or an image is refused, 2 a file can't be read or written, and standard error says which.
 
 use std::env;
-use std::fs;
+use std::fs::{self, File};
 use std::io::{self, Write};
 use std::process::ExitCode;
 
@@ -20,40 +21,102 @@ use refile::{Content, Counts, Hash, Refusal, Replica, RevisionNumber, Sequence};
 
 fn main() -> ExitCode {
     let arguments: Vec<String> = env::args().skip(1).collect();
-    match run(&arguments) {
-        Ok(true) => ExitCode::SUCCESS,
-        Ok(false) => ExitCode::from(1),
+    ExitCode::from(status(&arguments))
+}
+
+/// Runs, and answers the exit status.
+pub fn status(arguments: &[String]) -> u8 {
+    match run(arguments) {
+        Ok(true) => 0,
+        Ok(false) => 1,
         Err(error) => {
             eprintln!("two_offices: {error}");
-            ExitCode::from(2)
+            2
         }
     }
 }
 
 /// Answers whether the offices agree in the end.
-fn run(arguments: &[String]) -> io::Result<bool> {
+fn run(arguments: &[String]) -> Result<bool, String> {
+    if let [_, _, new_north, new_south] = arguments {
+        if new_north == new_south {
+            return Err(format!(
+                "both new files are named {new_north}: name two. Nothing was done."
+            ));
+        }
+    }
     let (north, south) = match arguments {
         [] => {
             let [north, south] = small_offices().expect("the small offices break no rule");
             (north.image(), south.image())
         }
-        [north, south] | [north, south, _, _] => (fs::read(north)?, fs::read(south)?),
-        _ => {
-            return Err(io::Error::other(
-                "name two images, or two images and two new files",
-            ))
-        }
+        [north, south] | [north, south, _, _] => (read(north)?, read(south)?),
+        _ => return Err("name two images, or two images and two new files.".to_string()),
     };
     let mut out = io::stdout().lock();
-    let Some(merged) = replicate(&north, &south, &mut out)? else {
+    let merged = replicate(&north, &south, &mut out).and_then(|merged| {
+        out.flush()?;
+        Ok(merged)
+    });
+    let Some(merged) = merged.map_err(|error| unprinted(&error, "Nothing was saved."))? else {
         return Ok(false);
     };
     if let [_, _, new_north, new_south] = arguments {
-        fs::write(new_north, &merged.north)?;
-        fs::write(new_south, &merged.south)?;
-        writeln!(out, "Saved as {new_north} and {new_south}.")?;
+        save_both(&merged, new_north, new_south)?;
+        writeln!(out, "Saved as {new_north} and {new_south}.")
+            .and_then(|()| out.flush())
+            .map_err(|error| unprinted(&error, "Both offices are saved."))?;
     }
     Ok(merged.agree)
+}
+
+fn read(path: &str) -> Result<Vec<u8>, String> {
+    fs::read(path).map_err(|error| format!("{path} can't be read: {error}."))
+}
+
+fn unprinted(error: &io::Error, then: &str) -> String {
+    format!("standard output can't be written: {error}. {then}")
+}
+
+/// Makes a file that was not there before.
+fn make_file(path: &str) -> Result<File, String> {
+    File::create_new(path)
+        .map_err(|error| format!("{path} is there already or can't be made: {error}."))
+}
+
+/// Takes away a file that this program made and that is not whole.
+fn unmake_file(path: &str) -> String {
+    match fs::remove_file(path) {
+        Ok(()) => String::new(),
+        Err(error) => {
+            format!(" {path} is not whole, and can't be removed: {error}. Don't use it.")
+        }
+    }
+}
+
+/// Writes an image and sees that all of it arrived; else no file of that name is left.
+fn write_image(mut file: File, path: &str, image: &[u8]) -> Result<(), String> {
+    let written = file.write_all(image).and_then(|()| file.sync_all());
+    drop(file);
+    written.map_err(|error| {
+        let left = unmake_file(path);
+        format!("{path} can't be written: {error}.{left}")
+    })
+}
+
+/// Saves both offices, or says of each file what became of it.
+fn save_both(merged: &Merged, new_north: &str, new_south: &str) -> Result<(), String> {
+    let north = make_file(new_north).map_err(|error| error + " Nothing was saved.")?;
+    let south = make_file(new_south).map_err(|error| {
+        let left = unmake_file(new_north);
+        format!("{error}{left} Nothing was saved.")
+    })?;
+    write_image(north, new_north, &merged.north).map_err(|error| {
+        let left = unmake_file(new_south);
+        format!("{error}{left} Nothing was saved.")
+    })?;
+    write_image(south, new_south, &merged.south)
+        .map_err(|error| format!("{error} North is saved as {new_north}, and South is not saved."))
 }
 
 /// The images after both pulls, and whether they are the same but for sequences.
@@ -152,6 +215,7 @@ fn tell_document(replica: &Replica, id: &[u8], out: &mut impl Write) -> io::Resu
     match winner.content {
         Content::Live(label) => write!(out, ", label {label}")?,
         Content::Deleted => write!(out, ", deleted")?,
+        other => write!(out, ", {other:?}")?,
     }
     writeln!(out, ", conflicts {}", leaves.len() - 1)
 }

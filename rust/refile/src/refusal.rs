@@ -3,6 +3,8 @@
 use std::error::Error;
 use std::fmt;
 
+use crate::header::TEXTS;
+
 /// Why a call was refused. A refused call has altered neither the replica nor any lent buffer.
 ///
 /// Each variant stands for one number of the rules, which [`Refusal::number`] gives. The refusals of
@@ -16,13 +18,18 @@ use std::fmt;
 /// let refused = replica.write_path(b"", RevisionNumber(1), &[[0x20; 16]], Content::Live(7));
 /// assert_eq!(refused, Err(Refusal::Id));
 /// assert_eq!(Refusal::Id.number(), 1);
-/// assert_eq!(Refusal::Id.to_string(), "refused 1: the id is empty or over 32 bytes");
+/// assert_eq!(
+///     Refusal::Id.to_string(),
+///     "refused 1: the id is empty or over 32 bytes; give an id of 1 to 32 bytes"
+/// );
 /// ```
 #[derive(Clone, Copy, Debug, PartialEq, Eq, Hash)]
+#[non_exhaustive]
 pub enum Refusal {
     /// 1: the id is empty or over 32 bytes.
     Id,
-    /// 2: the path's bytes are not a multiple of 16, or not 1 to 512 hashes.
+    /// 2: the path's bytes are not a multiple of 16, or not 1 to
+    /// [`PATH_HASHES`](crate::PATH_HASHES) hashes.
     Path,
     /// 3: the number is smaller than the count of hashes.
     Number,
@@ -30,9 +37,9 @@ pub enum Refusal {
     Parent,
     /// 5: the newest revision is a known leaf with another content.
     Content,
-    /// 6: the document is absent and 32 documents are held.
+    /// 6: the document is absent and [`DOCUMENTS`](crate::DOCUMENTS) documents are held.
     NoDocumentRoom,
-    /// 7: the revisions held and the new ones exceed 512.
+    /// 7: the revisions held and the new ones exceed [`REVISIONS`](crate::REVISIONS).
     NoRevisionRoom,
     /// 8: something would be added and the update sequence is 4,294,967,295.
     NoSequence,
@@ -55,7 +62,8 @@ pub enum Refusal {
     ImageShort,
     /// 21, of an image: the edition is not 1.
     ImageEdition,
-    /// 22, of an image: the head is at fault.
+    /// 22, of an image: the head's zero field isn't zero, it has more documents or revisions than
+    /// there is room for, or the total isn't the one they give or not the given length.
     ImageHead,
     /// 23, of an image: an entry of the contents is at fault, its sequence aside, or the rows don't
     /// sum to the head's count.
@@ -63,12 +71,14 @@ pub enum Refusal {
         /// The first bad entry, else the count of documents.
         place: u32,
     },
-    /// 24, of an image: an own sequence is 0 or repeated, or the update sequence isn't the largest.
+    /// 24, of an image: an own sequence is 0 or repeated, or the update sequence isn't the largest of
+    /// them, 0 if there are none.
     ImageSequence {
         /// The first entry with 0 or repeating an earlier one, else the count of documents.
         place: u32,
     },
-    /// 25, of an image: a row is at fault by itself, or isn't above the row before it.
+    /// 25, of an image: a row is at fault by itself, or isn't above the row before it in its
+    /// document.
     ImageRow {
         /// The first bad row.
         place: u32,
@@ -179,8 +189,8 @@ impl Refusal {
             25 => Refusal::ImageRow { place: value },
             26 => Refusal::ImageParent { place: value },
             100.. => unreachable!(
-                "house refusal {number}: the wrapper lends only whole replicas, known kinds and \
-                 hashes of 16 bytes"
+                "house refusal {number}: the wrapper lends only replicas, known kinds and hashes of \
+                 16 bytes"
             ),
             _ => unreachable!("refusal {number} is not in the interface's table"),
         };
@@ -188,32 +198,32 @@ impl Refusal {
         refusal
     }
 
-    fn reason(self) -> &'static str {
-        match self {
-            Refusal::Id => "the id is empty or over 32 bytes",
-            Refusal::Path => "the path is not 1 to 512 whole hashes",
-            Refusal::Number => "the number is smaller than the count of hashes",
-            Refusal::Parent => "a revision of the path has another known parent",
-            Refusal::Content => "the newest revision is a known leaf with another content",
-            Refusal::NoDocumentRoom => "no room for another document",
-            Refusal::NoRevisionRoom => "no room for the new revisions",
-            Refusal::NoSequence => "the update sequence is used up",
-            Refusal::EditParent => "the edit's parent rule isn't met",
-            Refusal::EditKnown => "the edit's new revision is known already",
-            Refusal::EditLast => "the edit's parent has the last number there is",
-            Refusal::NoDocument => "no such document",
-            Refusal::NoRevision => "no such revision in the document",
-            Refusal::ShortBuffer => "the lent buffer is shorter than the answer",
-            Refusal::Asked => "the asked list is not whole entries of 20 bytes",
-            Refusal::ImageShort => "the image has fewer than 16 bytes",
-            Refusal::ImageEdition => "the image's edition is not 1",
-            Refusal::ImageHead => "the image's head is at fault",
-            Refusal::ImageContents { .. } => "the image's table of contents is at fault",
-            Refusal::ImageSequence { .. } => "the image's sequences are at fault",
-            Refusal::ImageRow { .. } => "a row of the image is at fault",
-            Refusal::ImageParent { .. } => "a parent or a kind in the image is at fault",
-        }
+    /// What the refusal means and what to do next, in one line.
+    ///
+    /// ```
+    /// use refile::Refusal;
+    ///
+    /// let text = "there is no such document here; see that the id is right to the last byte";
+    /// assert_eq!(Refusal::NoDocument.text(), text);
+    /// ```
+    pub fn text(self) -> &'static str {
+        text(self.number()).expect("the header has a text for each refusal")
     }
+}
+
+/// The line for a refusal's number, house refusals of the C interface included: what it means and
+/// what to do next. None for a number that the header doesn't have.
+///
+/// ```
+/// use refile::{text, Refusal};
+///
+/// assert_eq!(text(12), Some(Refusal::NoDocument.text()));
+/// assert!(text(100).is_some());
+/// assert_eq!(text(16), None);
+/// ```
+pub fn text(number: u32) -> Option<&'static str> {
+    let known = TEXTS.iter().find(|(known, _)| *known == number);
+    known.map(|(_, text)| *text)
 }
 
 impl fmt::Display for Refusal {
@@ -222,7 +232,7 @@ impl fmt::Display for Refusal {
         if self.is_of_image() {
             write!(f, " at {}", self.place())?;
         }
-        write!(f, ": {}", self.reason())
+        write!(f, ": {}", self.text())
     }
 }
 

@@ -3,21 +3,22 @@
 //! Every `unsafe` block here is one call of the archive, and is sound for the same three reasons.
 //! Each pointer and length come from one Rust slice, so the memory is there, and whatever may be
 //! written is borrowed `&mut` and overlaps nothing. A replica's buffer has the one length the
-//! archive takes. And the buffer holds a replica, since only `fresh` and `load` first fill it, and
-//! only the archive ever writes to it.
+//! archive takes. And the buffer holds a replica: `fresh` and `load` make it one, `from_storage` asks
+//! the archive whether it is one, and only the archive ever writes to it.
 
 use std::fmt;
 
+use crate::header::{CHANGES_BYTES, COUNTS_BYTES, PULL_BYTES};
 use crate::{
-    sys, Change, Content, Counts, Hash, Held, Leaf, Refusal, Revision, RevisionNumber, Sequence,
-    Written, ASKED_BYTES, HASH_BYTES, ID_BYTES, IMAGE_MOST, LEAF_BYTES, PATH_HASHES, REPLICA_BYTES,
-    REPORT_MOST, REVISIONS,
+    archive_version, sys, Change, Content, Counts, Hash, Held, Leaf, Refusal, Revision,
+    RevisionNumber, Sequence, Written, ASKED_BYTES, HASH_BYTES, ID_BYTES, IMAGE_MOST, LEAF_BYTES,
+    REPLICA_BYTES, REPORT_MOST, REVISIONS, VERSION,
 };
 
 /// A replica: documents with their revisions, and an update sequence.
 ///
-/// It owns its storage of 26,000 bytes, in one allocation, and shows it to nobody. Two replicas are
-/// equal exactly if they hold the same, sequences included.
+/// It owns its storage of [`REPLICA_BYTES`] bytes, in one allocation, and lets nobody write to it.
+/// Two replicas are equal exactly if they hold the same, sequences included.
 #[derive(PartialEq, Eq)]
 pub struct Replica {
     bytes: Box<[u8; REPLICA_BYTES]>,
@@ -50,6 +51,15 @@ fn answer(result: u64) -> Result<u32, Refusal> {
     ))
 }
 
+/// Ends the program if the linked archive is not of this crate's version.
+fn archive_belongs() {
+    let archive = archive_version();
+    assert!(
+        archive == VERSION,
+        "the linked archive is of version {archive}, and this crate of version {VERSION}"
+    );
+}
+
 /// The answer of a call that can be refused only for reasons this crate rules out.
 fn sure(result: u64) -> u32 {
     answer(result).unwrap_or_else(|refusal| unreachable!("a call that has no refusals: {refusal}"))
@@ -68,8 +78,9 @@ fn numbers<const BYTES: usize, const COUNT: usize>(answer: [u8; BYTES]) -> [u32;
 }
 
 impl Replica {
-    /// A replica's buffer that holds no replica yet.
+    /// A replica's buffer that no call has filled yet.
     fn unfilled() -> Replica {
+        archive_belongs();
         let bytes = vec![0; REPLICA_BYTES].into_boxed_slice();
         Replica {
             bytes: bytes.try_into().expect("the vector has just that length"),
@@ -184,11 +195,55 @@ impl Replica {
         image
     }
 
+    /// The replica's storage, for whoever keeps replicas in shared memory or sends them to another
+    /// process of the same version. It has no checksum and may change with the version, so for
+    /// keeping use the [`image`](Replica::image).
+    ///
+    /// ```
+    /// use refile::Replica;
+    ///
+    /// // A fresh replica is all zeros.
+    /// assert!(Replica::fresh().storage().iter().all(|&byte| byte == 0));
+    /// ```
+    pub fn storage(&self) -> &[u8; REPLICA_BYTES] {
+        &self.bytes
+    }
+
+    /// The replica whose [`storage`](Replica::storage) these bytes are. None if they are not exactly
+    /// what some calls leave, an image among them; any bytes of any length may be given. They are
+    /// copied before they are looked through.
+    ///
+    /// ```
+    /// use refile::{Content, Replica, RevisionNumber};
+    ///
+    /// # fn main() -> Result<(), refile::Refusal> {
+    /// let mut replica = Replica::fresh();
+    /// replica.write_path(b"lot", RevisionNumber(1), &[[0x20; 16]], Content::Live(7))?;
+    /// let mut bytes = replica.storage().to_vec();
+    /// assert_eq!(Replica::from_storage(&bytes), Some(replica));
+    /// bytes[5] = 2; // two revisions, and only one is there
+    /// assert_eq!(Replica::from_storage(&bytes), None);
+    /// assert_eq!(Replica::from_storage(&Replica::fresh().image()), None);
+    /// # Ok(())
+    /// # }
+    /// ```
+    pub fn from_storage(bytes: &[u8]) -> Option<Replica> {
+        if bytes.len() != REPLICA_BYTES {
+            return None;
+        }
+        let mut replica = Replica::unfilled();
+        replica.bytes.copy_from_slice(bytes);
+        // SAFETY: the pointer and the length are one slice's; any bytes may be asked about.
+        let is = sure(unsafe { sys::refile_is_replica(replica.bytes.as_ptr(), REPLICA_BYTES) });
+        flag(is).then_some(replica)
+    }
+
     /// Path write: gives a document the revision `number` with the hash `path[0]`, its parent with
     /// the hash `path[1]`, and so on, and the content of the newest.
     ///
     /// What the path gives and the replica lacks is added, be it revisions or only a parent. The
-    /// content is dropped if the newest revision is known and has a child.
+    /// content is dropped if the newest revision is known and has a child. Hashes that come oldest
+    /// first are taken without a word, as another history of the document.
     ///
     /// Refusals: 1 to 8, in that order.
     ///
@@ -471,7 +526,7 @@ impl Replica {
     /// # }
     /// ```
     pub fn path(&self, id: &[u8], revision: Revision) -> Result<Vec<Hash>, Refusal> {
-        let mut hashes = vec![[0; HASH_BYTES]; PATH_HASHES];
+        let mut hashes = vec![[0; HASH_BYTES]; REVISIONS];
         let count = self.path_into(id, revision, hashes.as_flattened_mut())?;
         hashes.truncate(count);
         Ok(hashes)
@@ -628,7 +683,7 @@ impl Replica {
     /// # }
     /// ```
     pub fn next_change(&self, after: Sequence, id: &mut [u8]) -> Result<Option<Change>, Refusal> {
-        let mut found = [0; 16];
+        let mut found = [0; CHANGES_BYTES];
         // SAFETY: see the module.
         let any = answer(unsafe {
             sys::refile_changes(
@@ -654,7 +709,7 @@ impl Replica {
     /// into this replica. The source stays as it was.
     ///
     /// A refused offer is counted and not stored, so `refused` above 0 means that something of the
-    /// source is *not* in this replica.
+    /// source is *not* in this replica; a pull after a later sequence does not offer it again.
     ///
     /// ```
     /// use refile::{Content, Counts, Replica, RevisionNumber, Sequence};
@@ -674,7 +729,7 @@ impl Replica {
     /// # }
     /// ```
     pub fn pull(&mut self, source: &Replica, after: Sequence) -> Counts {
-        let mut counts = [0; 12];
+        let mut counts = [0; PULL_BYTES];
         // SAFETY: see the module.
         sure(unsafe {
             sys::refile_pull(
@@ -730,7 +785,7 @@ impl Replica {
     /// # }
     /// ```
     pub fn counts(&self) -> Held {
-        let mut held = [0; 8];
+        let mut held = [0; COUNTS_BYTES];
         // SAFETY: see the module.
         sure(unsafe {
             sys::refile_counts(
@@ -833,6 +888,7 @@ pub fn report(image: &[u8]) -> String {
 /// assert_eq!(report_into(b"", &mut out[..15]), Err(Refusal::ShortBuffer));
 /// ```
 pub fn report_into(image: &[u8], out: &mut [u8]) -> Result<usize, Refusal> {
+    archive_belongs();
     // SAFETY: each pointer and length are one slice's; no replica is lent.
     let length = answer(unsafe {
         sys::refile_report(image.as_ptr(), image.len(), out.as_mut_ptr(), out.len())

@@ -4,6 +4,10 @@
 //! [`Replica`](crate::Replica), which owns it.
 
 unsafe extern "C" {
+    pub fn refile_version() -> u64;
+
+    pub fn refile_is_replica(bytes: *const u8, bytes_len: usize) -> u64;
+
     pub fn refile_fresh(replica: *mut u8, replica_len: usize) -> u64;
 
     pub fn refile_load(

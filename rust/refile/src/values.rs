@@ -84,6 +84,7 @@ impl fmt::Display for Revision {
 /// Equal labels must mean equal bodies on all replicas. Only the caller can see to that, since the
 /// library sees labels and never a body.
 #[derive(Clone, Copy, Debug, PartialEq, Eq, Hash)]
+#[non_exhaustive]
 pub enum Content {
     /// A live body, by its label.
     Live(u64),

@@ -1,6 +1,6 @@
 //! The house refusals of the C interface, which the wrapper never provokes: what the boundary can get
-//! and the rules have no number for. They come before all others, in the order of their numbers, and
-//! leave every buffer.
+//! and the rules have no number for. They come before all others, 100 and 106 of a replica first, then
+//! 101 to 105, and leave every buffer. Also what is asked about bytes that may be no replica.
 
 use refile::REPLICA_BYTES;
 
@@ -14,6 +14,7 @@ const BAD_LABEL: u32 = 102;
 const BAD_FLAG: u32 = 103;
 const BAD_HASH: u32 = 104;
 const BAD_NO_PARENT: u32 = 105;
+const IMAGE_LENT: u32 = 106;
 const SHORT_BUFFER: u32 = 14;
 
 const LIVE: u32 = 1;
@@ -21,6 +22,8 @@ const DELETED: u32 = 2;
 
 const HASH: [u8; 16] = [0x20; 16];
 const NONE: &[u8] = &[];
+/// Bytes of a buffer for any answer about that replica.
+const OUT: usize = 512;
 
 /// A replica that holds one document, "lot".
 fn replica() -> Vec<u8> {
@@ -159,6 +162,29 @@ fn counts(replica: &[u8], held: &mut [u8]) -> Answer {
     })
 }
 
+/// The calls on those bytes, with everything else bad as well, and the whole replica as the other of a
+/// pull. None may alter it.
+fn with_all_else_bad(bytes: &mut [u8], whole: &[u8], out: &mut [u8]) -> [Answer; 7] {
+    let bad = Edit {
+        hash: NONE,
+        kind: 0,
+        named: 2,
+        ..EDIT
+    };
+    let mut target = whole.to_vec();
+    let answers = [
+        write(bytes, NONE, NONE, 0, 0),
+        edit(bytes, NONE, bad),
+        path(bytes, NONE, NONE, out),
+        changes(bytes, out, &mut []),
+        counts(bytes, &mut []),
+        pull(bytes, whole, &mut []),
+        pull(&mut target, bytes, &mut []),
+    ];
+    assert!(target == whole);
+    answers
+}
+
 /// Makes a call on a whole replica, which must be refused so and leave every byte.
 fn refused(number: u32, call: impl FnOnce(&mut [u8]) -> Answer) {
     let mut bytes = replica();
@@ -174,7 +200,7 @@ fn a_replica_of_another_size() {
         let mut bytes = whole.clone();
         bytes.resize(size, 0xee);
         let former = bytes.clone();
-        let mut out = [0xee; 512];
+        let mut out = [0xee; OUT];
         let (at, len) = (bytes.as_mut_ptr(), size);
         let (out_at, out_len) = (out.as_mut_ptr(), out.len());
         let (id, id_len) = (b"lot".as_ptr(), 3);
@@ -191,23 +217,102 @@ fn a_replica_of_another_size() {
             ]
         };
         assert_eq!(results.map(answer), [(BAD_REPLICA, 0); 7]);
-        // With everything else bad as well.
-        let bad = Edit {
-            hash: NONE,
-            kind: 0,
-            named: 2,
-            ..EDIT
-        };
-        assert_eq!(write(&mut bytes, NONE, NONE, 0, 0), (BAD_REPLICA, 0));
-        assert_eq!(edit(&mut bytes, NONE, bad), (BAD_REPLICA, 0));
-        assert_eq!(path(&bytes, NONE, NONE, &mut out), (BAD_REPLICA, 0));
-        assert_eq!(changes(&bytes, &mut out, &mut []), (BAD_REPLICA, 0));
-        assert_eq!(counts(&bytes, &mut []), (BAD_REPLICA, 0));
-        assert_eq!(pull(&mut bytes, &whole, &mut []), (BAD_REPLICA, 0));
-        let mut target = whole.clone();
-        assert_eq!(pull(&mut target, &bytes, &mut []), (BAD_REPLICA, 0));
-        assert!(target == whole && bytes == former && out == [0xee; 512]);
+        let answers = with_all_else_bad(&mut bytes, &whole, &mut out);
+        assert_eq!(answers, [(BAD_REPLICA, 0); 7]);
+        assert!(bytes == former && out == [0xee; OUT]);
     }
+}
+
+/// Whether the bytes are a replica, whatever their length.
+fn is_replica(bytes: &[u8]) -> bool {
+    // SAFETY: the pointer and the length are one slice's; any bytes may be asked about.
+    match unsafe { sys::refile_is_replica(bytes.as_ptr(), bytes.len()) } {
+        0 => false,
+        1 => true,
+        other => panic!("{other} for yes or no"),
+    }
+}
+
+/// Every call but fresh and load refuses a buffer that does not begin as a replica does, whatever
+/// else is bad, and after a buffer of another size.
+#[test]
+fn a_replica_that_begins_as_an_image() {
+    let whole = replica();
+    let mut image = vec![0; REPLICA_BYTES];
+    // SAFETY: every pointer and length is one buffer's, and none overlap.
+    let saved =
+        unsafe { sys::refile_save(whole.as_ptr(), whole.len(), image.as_mut_ptr(), image.len()) };
+    assert_eq!(answer(saved), (0, 108));
+    for (at, byte) in [(0, 0), (0, 1), (0, 0xff), (1, 0xff)] {
+        let mut bytes = image.clone();
+        bytes[at] = byte;
+        let former = bytes.clone();
+        let mut out = [0xee; OUT];
+        let (lent, len) = (bytes.as_ptr(), bytes.len());
+        let (out_at, out_len) = (out.as_mut_ptr(), 0);
+        // SAFETY: as above.
+        let results = unsafe {
+            [
+                sys::refile_save(lent, len, out_at, out_len),
+                sys::refile_winner(lent, len, NONE.as_ptr(), 0, out_at, out_len),
+                sys::refile_leaves(lent, len, NONE.as_ptr(), 0, out_at, out_len),
+                sys::refile_missing(
+                    lent,
+                    len,
+                    NONE.as_ptr(),
+                    0,
+                    b"x".as_ptr(),
+                    1,
+                    out_at,
+                    out_len,
+                ),
+                sys::refile_update_sequence(lent, len),
+            ]
+        };
+        assert_eq!(results.map(answer), [(IMAGE_LENT, 0); 5]);
+        let answers = with_all_else_bad(&mut bytes, &whole, &mut out);
+        assert_eq!(answers, [(IMAGE_LENT, 0); 7]);
+        // The target comes before the source.
+        let mut target = whole.clone();
+        assert_eq!(pull(&mut bytes, &whole[1..], &mut []), (IMAGE_LENT, 0));
+        assert_eq!(pull(&mut target[1..], &bytes, &mut []), (BAD_REPLICA, 0));
+        assert!(target == whole && bytes == former && out == [0xee; OUT]);
+        assert!(!is_replica(&bytes));
+    }
+    // Fresh and load take any bytes; load refuses only what it is given to load.
+    let (lent, len) = (image.as_mut_ptr(), image.len());
+    // SAFETY: as above.
+    let results = unsafe {
+        [
+            sys::refile_load(lent, len, NONE.as_ptr(), 0),
+            sys::refile_fresh(lent, len),
+        ]
+    };
+    assert_eq!(results.map(answer), [(20, 0), (0, 0)]);
+    assert!(image.iter().all(|&byte| byte == 0));
+}
+
+#[test]
+fn bytes_that_may_be_a_replica() {
+    let whole = replica();
+    assert!(is_replica(&whole));
+    assert!(is_replica(&vec![0; REPLICA_BYTES]));
+    for size in [0, 1, 15, 16, 108, REPLICA_BYTES - 1] {
+        assert!(!is_replica(&whole[..size]), "{size} bytes");
+        assert!(!is_replica(&vec![0; size]), "{size} zeros");
+    }
+    for size in [REPLICA_BYTES + 1, 2 * REPLICA_BYTES] {
+        let mut longer = whole.clone();
+        longer.resize(size, 0);
+        assert!(!is_replica(&longer), "{size} bytes");
+    }
+    assert!(!is_replica(&vec![0xff; REPLICA_BYTES]));
+}
+
+#[test]
+fn the_version() {
+    // SAFETY: the call takes nothing.
+    assert_eq!(unsafe { sys::refile_version() }, 2_000);
 }
 
 #[test]

@@ -1,12 +1,12 @@
 //! The cases of the rules on the linked library: the fourteen examples, the borders that are run and
 //! compared only, and which refusal is given where several hold. Every expected number and byte is
-//! written out here from the rules; nothing is asked of the model.
+//! written out here from the rules, but for the room, which is the crate's; nothing is asked of the model.
 
 use std::fmt::Debug;
 
 use refile::{
     report, report_into, Change, Content, Counts, Hash, Held, Refusal, Replica, Revision,
-    RevisionNumber, Sequence, Written,
+    RevisionNumber, Sequence, Written, DOCUMENTS, HASH_BYTES, PATH_HASHES, REVISIONS, STACK_BYTES,
 };
 use refile_model::harness::buffer;
 use Content::{Deleted, Live};
@@ -32,9 +32,9 @@ fn revision(number: u32, first: u8) -> Revision {
 }
 
 /// So many hashes, no two of them the same.
-fn long_path(hashes: u16) -> Vec<u8> {
+fn long_path(hashes: usize) -> Vec<u8> {
     let hash = |k: u16| [[0xaa; 14].as_slice(), &k.to_be_bytes()].concat();
-    (0..hashes).flat_map(hash).collect()
+    (0..).take(hashes).flat_map(hash).collect()
 }
 
 fn write_to(
@@ -115,6 +115,7 @@ fn leaf(number: u32, first: u8, content: Content) -> [u8; 29] {
     let (kind, label) = match content {
         Live(label) => (1, label),
         Deleted => (2, 0),
+        other => panic!("{other:?} stands in no case"),
     };
     let mut bytes = [0; 29];
     bytes[..4].copy_from_slice(&number.to_be_bytes());
@@ -369,60 +370,66 @@ fn ids_of_0_1_32_and_33_bytes() {
 }
 
 #[test]
-fn paths_of_512_and_513_hashes() {
+fn a_path_of_the_most_hashes_and_one_more() {
     let replica = &mut Replica::fresh();
-    let long = long_path(513);
-    refused(2, replica, |r| write_to(r, LOT, 513, &long, Live(1)));
+    let hashes = PATH_HASHES as u32;
+    let long = long_path(PATH_HASHES + 1);
+    let most = &long[..HASH_BYTES * PATH_HASHES];
+    refused(2, replica, |r| write_to(r, LOT, hashes + 1, &long, Live(1)));
     refused(2, replica, |r| write_to(r, LOT, LAST, &long, Live(1)));
-    for bytes in [0, 1, 15, 17, 16 * 512 - 1, 16 * 512 + 1] {
+    for bytes in [0, 1, 15, 17, most.len() - 1, most.len() + 1] {
         refused(2, replica, |r| {
             write_to(r, LOT, LAST, &long[..bytes], Live(1))
         });
     }
-    let most = &long[..16 * 512];
-    refused(3, replica, |r| write_to(r, LOT, 511, most, Live(1)));
-    for number in [512, LAST] {
+    refused(3, replica, |r| write_to(r, LOT, hashes - 1, most, Live(1)));
+    for number in [hashes, LAST] {
         let replica = &mut Replica::fresh();
         assert_eq!(write_to(replica, LOT, number, most, Live(1)), Ok(Changed));
-        assert_eq!(replica.counts().revisions, 512);
+        assert_eq!(replica.counts().revisions, hashes);
         let newest = Revision::new(number, *most.first_chunk().expect("a hash"));
-        answers(replica, 512, most, |r, out| r.path_into(LOT, newest, out));
+        answers(replica, PATH_HASHES, most, |r, out| {
+            r.path_into(LOT, newest, out)
+        });
         let leaves = replica.leaves(LOT).expect("the document is there");
         assert_eq!(leaves.len(), 1);
         assert_eq!(leaves[0].revision, newest);
-        assert_eq!(replica.image().len(), 16 + 44 + 48 * 512);
+        assert_eq!(replica.image().len(), 16 + 44 + 48 * PATH_HASHES);
         assert_eq!(write_to(replica, LOT, number, most, Live(1)), Ok(Unchanged));
     }
 }
 
 #[test]
-fn documents_32_and_33() {
+fn the_last_document_and_one_more() {
     let replica = &mut Replica::fresh();
-    for id in 0..32 {
+    let most = DOCUMENTS as u8;
+    for id in 0..most {
         let written = write_to(replica, &[id], 1, &hash(0x20), Live(0));
         assert_eq!(written, Ok(Changed), "document {id}");
     }
-    refused(6, replica, |r| write_to(r, &[32], 1, &hash(0x20), Live(0)));
-    refused(6, replica, |r| r.edit(&[32], hash(0x20), Live(0), None));
+    refused(6, replica, |r| {
+        write_to(r, &[most], 1, &hash(0x20), Live(0))
+    });
+    refused(6, replica, |r| r.edit(&[most], hash(0x20), Live(0), None));
     // To a document that is there, writes go on.
-    let path = path(&[0x91, 0x20]);
-    assert_eq!(write_to(replica, &[31], 2, &path, Live(0)), Ok(Changed));
-    assert_eq!(write_to(replica, &[31], 2, &path, Live(0)), Ok(Unchanged));
+    let (last, path) = ([most - 1], path(&[0x91, 0x20]));
+    assert_eq!(write_to(replica, &last, 2, &path, Live(0)), Ok(Changed));
+    assert_eq!(write_to(replica, &last, 2, &path, Live(0)), Ok(Unchanged));
     let held = Held {
-        documents: 32,
-        revisions: 33,
+        documents: most.into(),
+        revisions: u32::from(most) + 1,
     };
     assert_eq!(replica.counts(), held);
-    assert_eq!(replica.update_sequence(), Sequence(33));
+    assert_eq!(replica.update_sequence(), Sequence(held.revisions));
 }
 
 #[test]
-fn revisions_512_and_513() {
+fn the_last_revision_and_one_more() {
     let replica = &mut Replica::fresh();
-    let path = long_path(510);
-    assert_eq!(write_to(replica, b"a", 511, &path, Live(1)), Ok(Changed));
+    let path = long_path(REVISIONS - 2);
+    assert_eq!(write_to(replica, b"a", LAST, &path, Live(1)), Ok(Changed));
     assert_eq!(write(replica, 3, &[0x70], Live(1)), Ok(Changed));
-    // In all documents together: 511 are held.
+    // In all documents together: there is room for one.
     refused(7, replica, |r| write(r, 3, &[0x71, 0x61], Live(1)));
     refused(7, replica, |r| write_to(r, b"b", 9, &path[..32], Live(1)));
     assert_eq!(write(replica, 2, &[0x61], Live(1)), Ok(Changed));
@@ -436,7 +443,7 @@ fn revisions_512_and_513() {
     assert_eq!(write(replica, 3, &[0x70, 0x61], Live(1)), Ok(Unchanged));
     let held = Held {
         documents: 2,
-        revisions: 512,
+        revisions: REVISIONS as u32,
     };
     assert_eq!(replica.counts(), held);
     assert_eq!(replica.update_sequence(), Sequence(4));
@@ -641,8 +648,8 @@ fn a_deleted_leaf_may_be_edited() {
 
 // The order of refusals
 
-/// 32 documents, 512 revisions, and no sequence left. In "lot" 2-4c has the parent 1-20, and 3-70,
-/// 2-91, 1-21 and the last number's ff stand apart.
+/// No room for a document or a revision, and no sequence left. In "lot" 2-4c has the parent 1-20, and
+/// 3-70, 2-91, 1-21 and the last number's ff stand apart.
 fn brim() -> Replica {
     let mut replica = Replica::fresh();
     for (number, first_bytes) in [
@@ -654,13 +661,15 @@ fn brim() -> Replica {
     ] {
         write(&mut replica, number, first_bytes, Live(9)).expect("accepted");
     }
-    for id in 0..30 {
+    let last = DOCUMENTS as u8 - 2;
+    for id in 0..last {
         write_to(&mut replica, &[id], 1, &hash(0x20), Live(0)).expect("accepted");
     }
-    write_to(&mut replica, &[30], 476, &long_path(476), Live(0)).expect("accepted");
+    let rest = long_path(REVISIONS - replica.counts().revisions as usize);
+    write_to(&mut replica, &[last], LAST, &rest, Live(0)).expect("accepted");
     let held = Held {
-        documents: 32,
-        revisions: 512,
+        documents: DOCUMENTS as u32,
+        revisions: REVISIONS as u32,
     };
     assert_eq!(replica.counts(), held);
     let image = with_sequences_left(0, replica.image());
@@ -673,7 +682,7 @@ type BadWrite<'a> = (u32, &'a str, &'a [u8], u32, &'a [u8], Content);
 #[test]
 fn the_first_of_several_refusals_of_a_write() {
     let replica = &mut brim();
-    let (long, torn) = (long_path(513), [0x20; 17]);
+    let (long, torn) = (long_path(PATH_HASHES + 1), [0x20; 17]);
     let cases: [BadWrite; 14] = [
         (1, "2, 6", b"", 1, &[], Live(9)),
         (1, "2, 3, 6", b"", 0, &torn, Live(9)),
@@ -740,4 +749,42 @@ fn the_first_of_several_refusals_of_a_read() {
         read_refused(15, replica, 0, |r, out| r.missing_into(id, torn, out));
         read_refused(14, replica, 1, |r, out| r.missing_into(id, &asked, out));
     }
+}
+
+/// Several threads may read one replica at once, and all get the same answers.
+#[test]
+fn several_threads_read_one_replica() {
+    let replica = Replica::from_image(LOT_IMAGE).unwrap();
+    std::thread::scope(|scope| {
+        for _ in 0..4 {
+            scope.spawn(|| {
+                for _ in 0..200 {
+                    assert_eq!(replica.image(), LOT_IMAGE);
+                    assert_eq!(replica.winner(LOT).unwrap().revision, revision(2, 0x4c));
+                    assert_eq!(replica.leaves(LOT).unwrap().len(), 2);
+                    assert_eq!(replica.path(LOT, revision(3, 0x05)).unwrap().len(), 3);
+                }
+            });
+        }
+    });
+}
+
+/// The deepest calls run on a thread that has no more stack than the crate says.
+#[test]
+fn the_stack_suffices() {
+    let work = || {
+        let mut chain = Replica::fresh();
+        let hashes = long_path(PATH_HASHES);
+        let written = write_to(&mut chain, LOT, LAST, &hashes, Live(1));
+        assert_eq!(written, Ok(Changed));
+        let newest = Revision::new(LAST, *hashes.first_chunk().unwrap());
+        assert_eq!(chain.path(LOT, newest).unwrap().len(), PATH_HASHES);
+        let mut other = Replica::fresh();
+        assert_eq!(other.pull(&chain, Sequence::START).changed, 1);
+        assert_eq!(report(&other.image()), report(&chain.image()));
+        assert!(Replica::from_storage(chain.storage()) == Some(other));
+        assert_eq!(chain.leaves(LOT).unwrap().len(), 1);
+    };
+    let thread = std::thread::Builder::new().stack_size(STACK_BYTES);
+    thread.spawn(work).unwrap().join().unwrap();
 }

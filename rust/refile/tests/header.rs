@@ -1,6 +1,10 @@
 //! Holds the Rust declarations and numbers to the C header, which nothing else compares.
 
 use std::collections::BTreeMap;
+use std::fmt::Write as _;
+use std::fs;
+use std::path::Path;
+use std::process::Command;
 
 use refile::Refusal;
 
@@ -34,7 +38,10 @@ fn in_c() -> Signatures {
     let mut rest = text.as_str();
     while let Some((signature, after)) = between(rest, "\nuint64_t ", ");") {
         let (name, parameters) = signature.split_once('(').expect("a function");
-        let parameters = parameters.split(',').map(|parameter| {
+        let parameters = parameters
+            .split(',')
+            .filter(|parameter| *parameter != "void");
+        let parameters = parameters.map(|parameter| {
             let parameter = parameter.trim();
             let at = parameter.rfind([' ', '*']).expect("a type and a name") + 1;
             let (kind, name) = parameter.split_at(at);
@@ -54,6 +61,7 @@ fn in_rust() -> Signatures {
         assert!(after.trim_start().starts_with("-> u64;"), "{signature}");
         let (name, parameters) = signature.split_once('(').expect("a function");
         let parameters = parameters.trim().trim_end_matches(',').split(',');
+        let parameters = parameters.filter(|parameter| !parameter.is_empty());
         let parameters = parameters.map(|parameter| {
             let (name, kind) = parameter.split_once(": ").expect("a name and a type");
             let kind = match kind {
@@ -72,41 +80,86 @@ fn in_rust() -> Signatures {
     found
 }
 
-/// The numbers that the header defines.
-fn defined() -> BTreeMap<&'static str, u32> {
-    let lines = HEADER.lines().filter_map(|line| {
-        let mut words = line.strip_prefix("#define ")?.split_whitespace();
-        let name = words.next()?.strip_prefix("REFILE_")?;
-        let number = words.next()?.strip_suffix('u')?.parse().ok()?;
-        Some((name, number))
+/// What a C program prints that has the header and this in its main.
+fn printed_by_c(name: &str, statements: &str) -> String {
+    let package = Path::new(env!("CARGO_MANIFEST_DIR"));
+    let folder = Path::new(env!("CARGO_TARGET_TMPDIR"));
+    let (source, program) = (folder.join(format!("{name}.c")), folder.join(name));
+    let text = format!(
+        "#include <stdio.h>\n#include \"refile.h\"\nint main(void) {{\n{statements}return 0;\n}}\n"
+    );
+    fs::write(&source, text).unwrap();
+    let status = Command::new("cc")
+        .args(["-std=c99", "-Wall", "-Wextra", "-Werror", "-I"])
+        .arg(package.join("../../include"))
+        .arg("-o")
+        .args([&program, &source])
+        .status()
+        .expect("cc runs");
+    assert!(status.success(), "the program compiles");
+    let output = Command::new(&program).output().unwrap();
+    String::from_utf8(output.stdout).expect("the text is ASCII")
+}
+
+/// The numbers that the header defines, as C works them out.
+fn defined() -> BTreeMap<&'static str, usize> {
+    let names = HEADER.lines().filter_map(|line| {
+        let name = line.strip_prefix("#define REFILE_")?.split(' ').next()?;
+        let plain = name.chars().all(|c| c.is_ascii_uppercase() || c == '_');
+        (plain && name != "H" && name != "MUST_CHECK").then_some(name)
     });
-    lines.collect()
+    let names: Vec<&str> = names.collect();
+    let mut statements = String::new();
+    for name in &names {
+        writeln!(
+            statements,
+            "printf(\"%lu\\n\", (unsigned long)REFILE_{name});"
+        )
+        .unwrap();
+    }
+    let numbers = printed_by_c("header-numbers", &statements);
+    let numbers = numbers.lines().map(|line| line.parse().expect("a number"));
+    names.into_iter().zip(numbers).collect()
 }
 
 #[test]
 fn declarations_are_those_of_the_header() {
     let declared = in_c();
-    assert_eq!(declared.len(), 14);
+    assert_eq!(declared.len(), 16);
     assert_eq!(in_rust(), declared);
 }
 
+/// The sizes that both have.
+const SIZES: [(&str, usize); 14] = [
+    ("DOCUMENTS", refile::DOCUMENTS),
+    ("REVISIONS", refile::REVISIONS),
+    ("PATH_HASHES", refile::PATH_HASHES),
+    ("ID_BYTES", refile::ID_BYTES),
+    ("HASH_BYTES", refile::HASH_BYTES),
+    ("LEAF_BYTES", refile::LEAF_BYTES),
+    ("ASKED_BYTES", refile::ASKED_BYTES),
+    ("REPLICA_BYTES", refile::REPLICA_BYTES),
+    ("IMAGE_MOST", refile::IMAGE_MOST),
+    ("LEAVES_MOST", refile::LEAVES_MOST),
+    ("PATH_MOST", refile::PATH_MOST),
+    ("REPORT_MOST", refile::REPORT_MOST),
+    ("STACK_BYTES", refile::STACK_BYTES),
+    ("VERSION", refile::VERSION as usize),
+];
+
+/// The room of the rules, 32 documents, 512 revisions and 512 hashes, and what it gives, written out.
+/// Whatever else is about the room takes it as it is.
 #[test]
-fn sizes_are_those_of_the_header() {
-    let defined = defined();
-    for (name, size) in [
-        ("DOCUMENTS", refile::DOCUMENTS),
-        ("REVISIONS", refile::REVISIONS),
-        ("PATH_HASHES", refile::PATH_HASHES),
-        ("ID_BYTES", refile::ID_BYTES),
-        ("HASH_BYTES", refile::HASH_BYTES),
-        ("LEAF_BYTES", refile::LEAF_BYTES),
-        ("ASKED_BYTES", refile::ASKED_BYTES),
-        ("REPLICA_BYTES", refile::REPLICA_BYTES),
-        ("IMAGE_MOST", refile::IMAGE_MOST),
-        ("REPORT_MOST", refile::REPORT_MOST),
-    ] {
-        assert_eq!(defined[name] as usize, size, "{name}");
-    }
+fn sizes_are_the_known_ones() {
+    let room = (refile::DOCUMENTS, refile::REVISIONS, refile::PATH_HASHES);
+    assert_eq!(room, (32, 512, 512));
+    assert_eq!(
+        (refile::REPLICA_BYTES, refile::IMAGE_MOST),
+        (26_000, 26_000)
+    );
+    assert_eq!((refile::LEAVES_MOST, refile::PATH_MOST), (14_848, 8_192));
+    assert_eq!(refile::REPORT_MOST, 5_497);
+    assert_eq!(refile::VERSION, 2_000);
 }
 
 #[test]
@@ -135,16 +188,50 @@ fn refusals_are_those_of_the_header() {
         ("IMAGE_ROW", Refusal::ImageRow { place: 0 }),
         ("IMAGE_PARENT", Refusal::ImageParent { place: 0 }),
     ];
-    let defined = defined();
-    for (name, refusal) in refusals {
-        assert_eq!(defined[name], refusal.number(), "{name}");
+    let house = [
+        ("BAD_REPLICA", 100),
+        ("BAD_KIND", 101),
+        ("BAD_LABEL", 102),
+        ("BAD_FLAG", 103),
+        ("BAD_HASH", 104),
+        ("BAD_NO_PARENT", 105),
+        ("IMAGE_LENT", 106),
+    ];
+    let only_in_c = [
+        ("CHANGES_BYTES", 16),
+        ("PULL_BYTES", 12),
+        ("COUNTS_BYTES", 8),
+        ("LIVE", 1),
+        ("DELETED", 2),
+        ("VERSION_MAJOR", 0),
+        ("VERSION_MINOR", 2),
+        ("VERSION_PATCH", 0),
+    ];
+    let expected = refusals.map(|(name, refusal)| (name, refusal.number() as usize));
+    let expected = expected.into_iter().chain(SIZES).chain(house);
+    assert_eq!(defined(), expected.chain(only_in_c).collect());
+}
+
+#[test]
+fn texts_are_those_of_the_header() {
+    let numbers = 0..=120;
+    let statements = "for (unsigned n = 0; n <= 120; n++) printf(\"%s\\n\", refile_text(n));\n";
+    let printed = printed_by_c("header-texts", statements);
+    let lines: Vec<&str> = printed.lines().collect();
+    assert_eq!(lines.len(), 121);
+    assert_eq!(lines[0], "accepted");
+    let unknown = lines[120];
+    assert!(unknown.starts_with("a number that this header does not know"));
+    let mut known = 0;
+    for number in numbers.skip(1) {
+        let text = refile::text(number);
+        assert_eq!(text.unwrap_or(unknown), lines[number as usize], "{number}");
+        known += usize::from(text.is_some());
     }
-    // The sizes, the kinds and the house refusals are the rest of the header's numbers.
-    let sizes = 13;
-    let kinds = 2;
-    let house = defined.keys().filter(|name| name.starts_with("BAD_"));
+    assert_eq!(known, 29);
+    let refused = Refusal::ImageRow { place: 7 };
     assert_eq!(
-        defined.len(),
-        refusals.len() + sizes + kinds + house.count()
+        refused.to_string(),
+        format!("refused 25 at 7: {}", lines[25])
     );
 }

@@ -4,7 +4,7 @@
 
 use refile_model::harness::{apply, buffer};
 use refile_model::model::Model;
-use refile_model::scenario::{Scenario, Step};
+use refile_model::steps::{Scenario, Step};
 use refile_model::{Content, Replica};
 use std::fs;
 use std::path::{Path, PathBuf};

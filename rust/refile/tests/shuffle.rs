@@ -6,7 +6,9 @@ use std::iter::successors;
 
 use refile::{
     Content, Counts, Hash, Held, Leaf, Replica, Revision, RevisionNumber, Sequence, Written,
+    DOCUMENTS, ID_BYTES, REVISIONS,
 };
+use refile_model::offers::hash;
 use refile_model::random::Random;
 use Content::{Deleted, Live};
 
@@ -24,13 +26,6 @@ struct Write {
     number: u32,
     path: Vec<Hash>,
     content: Content,
-}
-
-/// A hash of that first byte, the rest zeros.
-fn hash(first: u8) -> Hash {
-    let mut hash = [0; 16];
-    hash[0] = first;
-    hash
 }
 
 /// A write to a document, with the hashes of its path given by their first bytes.
@@ -107,13 +102,14 @@ const FEW_SHOW: [Shown; 8] = [
     (b"last", &[(LAST, 0xff, Live(1)), (LAST, 0x01, Deleted)]),
 ];
 
-/// Writes that together fill a replica: 32 documents of 16 revisions each, lines, branches, and
+/// Writes that together fill a replica: as many revisions in each document, lines, branches, and
 /// revisions that stand apart, each given once or twice with its history to some depth.
 fn many() -> Vec<Write> {
     let random = &mut Random::new(512);
     let mut writes = Vec::new();
-    for document in 0..32_u8 {
-        let id = vec![b'd'; 1 + usize::from(document)];
+    for document in 0..DOCUMENTS {
+        // Each a prefix of the next, as far as ids go.
+        let id = vec![b'd' + (document / ID_BYTES) as u8; 1 + document % ID_BYTES];
         for (number, whole, content) in histories(random) {
             for _ in 0..1 + random.below(2) {
                 let depth = 1 + random.below(whole.len());
@@ -129,10 +125,10 @@ fn many() -> Vec<Write> {
     writes
 }
 
-/// The number, the whole path and the content of each of 16 revisions.
+/// The number, the whole path and the content of each of a document's revisions.
 fn histories(random: &mut Random) -> Vec<(u32, Vec<Hash>, Content)> {
     let mut made: Vec<(u32, Vec<Hash>, Content)> = Vec::new();
-    for new in 0..16 {
+    for new in 0..(REVISIONS / DOCUMENTS) as u8 {
         let mut new_hash = hash(random.any() as u8);
         new_hash[15] = new;
         let content = match random.below(4) {
@@ -339,8 +335,8 @@ fn a_full_replica_in_any_order() {
     let writes = many();
     let union = in_order(&writes);
     let full = Held {
-        documents: 32,
-        revisions: 512,
+        documents: DOCUMENTS as u32,
+        revisions: REVISIONS as u32,
     };
     assert_eq!(union.counts(), full);
     is_union(&union, &writes);
@@ -425,7 +421,7 @@ fn documents_are_pulled_in_the_order_of_their_sequences() {
     // The target has room for one document more, and the first that is offered gets it.
     let source: [Given; 2] = [(b"y", 1, &[0x20], Live(1)), (b"x", 1, &[0x20], Live(1))];
     let source = in_order(&writes(&source));
-    let ids: Vec<[u8; 1]> = (0..31).map(|id| [id]).collect();
+    let ids: Vec<[u8; 1]> = (1..DOCUMENTS as u8).map(|id| [id]).collect();
     let held: Vec<Given> = ids
         .iter()
         .map(|id| (&id[..], 1, &[0x20][..], Live(1)))

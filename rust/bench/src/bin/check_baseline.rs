@@ -5,12 +5,12 @@ use std::io::{self, Read, Write};
 use std::process::ExitCode;
 
 use refile_bench::baseline::Baseline;
+use refile_model::layout::IMAGE_MOST;
+use refile_model::model::REPORT_MOST;
 use refile_model::Replica;
 
 /// One byte more than the largest image; no more is read.
-const READ_MOST: usize = 26_001;
-/// No report is longer.
-const REPORT_MOST: usize = 5_497;
+const READ_MOST: usize = IMAGE_MOST + 1;
 
 fn main() -> ExitCode {
     match check() {

@@ -17,9 +17,9 @@ use std::fmt;
 use std::process::ExitCode;
 use std::time::{Duration, Instant};
 
-use refile::{IMAGE_MOST, REPORT_MOST};
+use refile::{DOCUMENTS, HASH_BYTES, IMAGE_MOST, REPORT_MOST};
 use refile_bench::linked::Linked;
-use refile_model::harness::buffer;
+use refile_model::harness::{buffer, checking};
 use refile_model::images;
 use refile_model::model::{hex, Model};
 use refile_model::random::Random;
@@ -94,10 +94,10 @@ impl fmt::Display for Tally {
 }
 
 /// An image of so many documents of one revision each, so that one more shows.
-fn small_documents(count: u8) -> Vec<u8> {
+fn small_documents(count: usize) -> Vec<u8> {
     let mut replica = Model::fresh();
-    for id in 0..count {
-        let written = replica.write(&[id], 1, &[id; 16], Content::Live(id.into()));
+    for id in 0..count as u8 {
+        let written = replica.write(&[id], 1, &[id; HASH_BYTES], Content::Live(id.into()));
         written.expect("there is room");
     }
     images::save(&replica)
@@ -121,7 +121,7 @@ impl Fuzz {
             include_bytes!("../../../../examples/north-after.image").to_vec(),
             include_bytes!("../../../../examples/south.image").to_vec(),
         ];
-        pool.extend([31, 32].map(small_documents));
+        pool.extend([DOCUMENTS - 1, DOCUMENTS].map(small_documents));
         let traps = images::traps().into_iter().map(|(_, image)| image);
         pool.extend(traps.filter(|image| Model::fresh().load(image).is_ok()));
         while pool.len() < POOL {
@@ -159,7 +159,7 @@ impl Fuzz {
                 "image {} of this seed: {what}\n{}\nas a scenario to replay:\n{}",
                 self.tally.images,
                 hex(&image),
-                images::checking(&image)
+                checking(&image)
             )
         })?;
         self.tally.images += 1;

@@ -2,7 +2,8 @@
 
 use refile_model::harness::apply;
 use refile_model::model::Model;
-use refile_model::scenario::{scenario, Scenario};
+use refile_model::scenario::scenario;
+use refile_model::steps::Scenario;
 use refile_model::Replica;
 use std::io::{self, Read, Write};
 use std::process::ExitCode;
