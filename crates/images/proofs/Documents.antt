@@ -8,11 +8,13 @@ use native.Mathlib.Omega.{arith}
 use lib.ListN.{length, take, drop, length-append, length-map, length-drop, take-append-drop}
 use lib.Seq.{take-at, drop-at, length-take-le}
 use Rattle.rules.specs.declared.Order.{Order}
-use Rattle.rules.specs.Image.{Entry, Row, nodeIn, badEntries, notAbove, largest, sumRows, deal, badRows, badLinks, inEach, documentsIn, totalLength}
+use Rattle.rules.specs.Faults.{badEntries, notAbove, largest, sumRows, badRows, badLinks, inEach}
+use Rattle.rules.specs.Image.{nodeIn, deal, documentsIn, totalLength}
+use Rattle.rules.specs.Layout.{Entry, Row, rowSize}
 use Rattle.rules.specs.Map.{Map, Below, Ascending}
 use Rattle.rules.specs.Order.{orderBytes, isLess}
 use Rattle.rules.specs.Replica.{Id, Document, revisionsHeld, largestSeq, IsId, IsTree}
-use Rattle.rules.specs.Room.{documentsMost, revisionsMost, last}
+use Rattle.rules.specs.Room.{documentsMost, revisionsMost, seqMost, idMost}
 use Rattle.images.proofs.Tests.{AllFalse}
 use Rattle.images.proofs.Lists.{Each, each-map, each-onto, each-append, each-take, each-drop, map-map, map-id}
 use Rattle.images.proofs.Rows.{RowFits, IsRow, rowFor, row-of-node, fields-fit}
@@ -24,7 +26,7 @@ use Rattle.images.proofs.Sequences.{seqOf}
 
 unfoldable pub entriesFor : ℕ → Map Id Document → List Entry
 entriesFor place [] = []
-entriesFor place (d ∷ ds) = entryFor place d ∷ entriesFor (place + 48 * length (d .1 .tree)) ds
+entriesFor place (d ∷ ds) = entryFor place d ∷ entriesFor (place + rowSize * length (d .1 .tree)) ds
 
 unfoldable pub rowsFor : Map Id Document → List Row
 rowsFor [] = []
@@ -33,7 +35,7 @@ rowsFor (d ∷ ds) = map rowFor (d .1 .tree) ++ rowsFor ds
 pub length-entriesFor : (place : ℕ) (ds : Map Id Document) → length (entriesFor place ds) ≡ length ds
 unfolding entriesFor
 length-entriesFor place [] = refl
-length-entriesFor place (d ∷ ds) = ap suc (length-entriesFor (place + 48 * length (d .1 .tree)) ds)
+length-entriesFor place (d ∷ ds) = ap suc (length-entriesFor (place + rowSize * length (d .1 .tree)) ds)
 
 pub length-rowsFor : (ds : Map Id Document) → length (rowsFor ds) ≡ revisionsHeld ds
 unfolding rowsFor revisionsHeld
@@ -44,17 +46,17 @@ length-rowsFor (d ∷ ds) =
 pub sum-entriesFor : (place : ℕ) (ds : Map Id Document) → sumRows (entriesFor place ds) ≡ revisionsHeld ds
 unfolding entriesFor entryFor sumRows revisionsHeld
 sum-entriesFor place [] = refl
-sum-entriesFor place (d ∷ ds) = ap (λ (n : ℕ). length (d .1 .tree) + n) (sum-entriesFor (place + 48 * length (d .1 .tree)) ds)
+sum-entriesFor place (d ∷ ds) = ap (λ (n : ℕ). length (d .1 .tree) + n) (sum-entriesFor (place + rowSize * length (d .1 .tree)) ds)
 
 pub largest-entriesFor : (place : ℕ) (ds : Map Id Document) → largest (entriesFor place ds) ≡ largestSeq ds
 unfolding entriesFor entryFor largest largestSeq
 largest-entriesFor place [] = refl
-largest-entriesFor place (d ∷ ds) = ap (max (seqOf d)) (largest-entriesFor (place + 48 * length (d .1 .tree)) ds)
+largest-entriesFor place (d ∷ ds) = ap (max (seqOf d)) (largest-entriesFor (place + rowSize * length (d .1 .tree)) ds)
 
 pub seqs-entriesFor : (place : ℕ) (ds : Map Id Document) → map (λ (e : Entry). e .seq) (entriesFor place ds) ≡ map seqOf ds
 unfolding entriesFor entryFor
 seqs-entriesFor place [] = refl
-seqs-entriesFor place (d ∷ ds) = ap {B = List ℕ} (λ l. seqOf d ∷ l) (seqs-entriesFor (place + 48 * length (d .1 .tree)) ds)
+seqs-entriesFor place (d ∷ ds) = ap {B = List ℕ} (λ l. seqOf d ∷ l) (seqs-entriesFor (place + rowSize * length (d .1 .tree)) ds)
 
 -- each document's own rows
 pub deal-rows : (place : ℕ) (ds : Map Id Document) → deal (entriesFor place ds) (rowsFor ds) ≡ map (λ d. map rowFor (d .1 .tree)) ds
@@ -64,8 +66,8 @@ deal-rows place (d ∷ ds) =
     let rs : List Row = map rowFor (d .1 .tree) in
     let n : length rs ≡ length (d .1 .tree) = length-map (d .1 .tree) rowFor in
     ap₂ {C = List (List Row)} (λ a b. a ∷ b) (take-at rs (rowsFor ds) (length (d .1 .tree)) n)
-    (ap (deal (entriesFor (place + 48 * length (d .1 .tree)) ds)) (drop-at rs (rowsFor ds) (length (d .1 .tree)) n)
-    ∙ deal-rows (place + 48 * length (d .1 .tree)) ds)
+    (ap (deal (entriesFor (place + rowSize * length (d .1 .tree)) ds)) (drop-at rs (rowsFor ds) (length (d .1 .tree)) n)
+    ∙ deal-rows (place + rowSize * length (d .1 .tree)) ds)
 
 -- ---- documents give entries and rows that meet the rules
 
@@ -86,14 +88,14 @@ not-above (some j) d ds b = ap (λ (o : Order). not (isLess o)) b
 pub record EntriesHold (place : ℕ) (before : Option Id) (es : List Entry) : Type 0 where
   pub clear : AllFalse (badEntries place before es)
   pub fits : Each EntryFits es
-  pub small : Each (λ e. e .size ≤ 32) es
+  pub small : Each (λ e. e .size ≤ idMost) es
 
 pub entries-forth : (place : ℕ) (before : Option Id) (ds : Map Id Document) → Each IsDoc ds → Ascending orderBytes ds → AboveId before ds
-    → place + 48 * revisionsHeld ds ≤ totalLength documentsMost revisionsMost → largestSeq ds ≤ last → EntriesHold place before (entriesFor place ds)
+    → place + rowSize * revisionsHeld ds ≤ totalLength documentsMost revisionsMost → largestSeq ds ≤ seqMost → EntriesHold place before (entriesFor place ds)
 unfolding entriesFor entryFor badEntries revisionsHeld largestSeq
 entries-forth place before [] r s b room most = record { clear = tt; fits = tt; small = tt }
 entries-forth place before (d ∷ ds) r s b room most =
-    go (entries-forth (place + 48 * length (d .1 .tree)) (some (d .0)) ds (r .1) (s .1) (s .0) (omega arith) (omega arith))
+    go (entries-forth (place + rowSize * length (d .1 .tree)) (some (d .0)) ds (r .1) (s .1) (s .0) (omega arith) (omega arith))
   where
     entry : IsEntry place d
     entry = record {
@@ -104,7 +106,7 @@ entries-forth place before (d ∷ ds) r s b room most =
       place = omega arith;
     }
 
-    go : EntriesHold (place + 48 * length (d .1 .tree)) (some (d .0)) (entriesFor (place + 48 * length (d .1 .tree)) ds)
+    go : EntriesHold (place + rowSize * length (d .1 .tree)) (some (d .0)) (entriesFor (place + rowSize * length (d .1 .tree)) ds)
         → EntriesHold place before (entriesFor place (d ∷ ds))
     go h = record {
       clear = (rules-entry place before (entryFor place d) (entry-for-rules place before d entry (not-above before d ds b)), h .clear);
@@ -140,7 +142,7 @@ links-clear ds r =
 
 -- documents are read back from their entries and rows
 pub documents-read : (place : ℕ) (ds : Map Id Document) → Each IsDoc ds
-    → documentsIn (entriesFor place ds) (map (λ d. map rowFor (d .1 .tree)) ds) ≡ ds
+    → documentsIn nodeIn (entriesFor place ds) (map (λ d. map rowFor (d .1 .tree)) ds) ≡ ds
 unfolding documentsIn entriesFor entryFor
 documents-read place [] r = refl
 documents-read place (d ∷ ds) r =
@@ -149,7 +151,7 @@ documents-read place (d ∷ ds) r =
     ∙ map-id (λ v. nodeIn (rowFor v)) (d .1 .tree)
     (each-map IsRow (λ v. nodeIn (rowFor v) ≡ v) row-of-node (d .1 .tree) (tree-rows (d .1 .tree) (r .0 .tree))) in
     ap₂ {C = Map Id Document} (λ a b. a ∷ b) (λ i. (d .0, record { seq = d .1 .seq; tree = t i }))
-    (documents-read (place + 48 * length (d .1 .tree)) ds (r .1))
+    (documents-read (place + rowSize * length (d .1 .tree)) ds (r .1))
 
 -- ---- entries and rows that meet the rules hold documents
 
@@ -172,7 +174,7 @@ none-left (w ∷ ws) e = absurd (omega arith)
 documents-step : (due : ℕ) (before : Option Id) (e : Entry) (es : List Entry) (ws : List Row) (ds : Map Id Document)
     → EntryFits e → EntryRules due before e → Each RowFits ws → e .rows ≤ length ws
     → AllFalse (badRows none (take (e .rows) ws)) → AllFalse (badLinks (take (e .rows) ws))
-    → DocsHold (due + 48 * e .rows) (some (e .id)) es (drop (e .rows) ws) ds
+    → DocsHold (due + rowSize * e .rows) (some (e .id)) es (drop (e .rows) ws) ds
     → DocsHold due before (e ∷ es) ws ((e .id, record { seq = record { 0 = e .seq }; tree = map nodeIn (take (e .rows) ws) }) ∷ ds)
 unfolding entriesFor rowsFor
 documents-step due before e es ws ds f r g enough rows links h =
@@ -183,7 +185,7 @@ documents-step due before e es ws ds f r g enough rows links h =
     let tree = tree-back own (each-take RowFits (e .rows) ws g) (subst (λ (k : ℕ). 1 ≤ k) (sym n) (r .rows)) rows links in
     record {
       entries = ap₂ {C = List Entry} (λ a b. a ∷ b) (document-entry due before e d f r refl m refl)
-          (ap (λ (k : ℕ). entriesFor (due + 48 * k) ds) m ∙ h .entries);
+          (ap (λ (k : ℕ). entriesFor (due + rowSize * k) ds) m ∙ h .entries);
       rows = ap₂ (λ (a b : List Row). a ++ b) (tree .1) (h .rows) ∙ take-append-drop (e .rows) ws;
       each = (record { id = entry-id due before e f r; tree = tree .0 }, h .each);
       ascending = (h .above, h .ascending);
@@ -197,7 +199,7 @@ documents-step due before e es ws ds f r g enough rows links h =
 pub documents-back : (due : ℕ) (before : Option Id) (es : List Entry) (ws : List Row) → Each EntryFits es → Each RowFits ws
     → AllFalse (badEntries due before es) → sumRows es ≡ length ws
     → AllFalse (inEach (badRows none) (deal es ws)) → AllFalse (inEach badLinks (deal es ws))
-    → DocsHold due before es ws (documentsIn es (deal es ws))
+    → DocsHold due before es ws (documentsIn nodeIn es (deal es ws))
 unfolding badEntries sumRows deal inEach documentsIn entriesFor rowsFor
 documents-back due before [] ws f g bad sum rows links =
     record { entries = refl; rows = none-left ws sum; each = tt; ascending = tt; above = nothing before }
@@ -211,5 +213,5 @@ documents-back due before (e ∷ es) ws f g bad sum rows links =
     let a = each-split (λ b. b ≡ false) (badRows none own) (inEach (badRows none) (deal es later)) rows in
     let b = each-split (λ b. b ≡ false) (badLinks own) (inEach badLinks (deal es later)) links in
     let rest : sumRows es ≡ length later = let l = length-drop (e .rows) ws in omega arith in
-    documents-step due before e es ws (documentsIn es (deal es later)) (f .0) (entry-rules due before e (bad .0)) g (omega arith) (a .0) (b .0)
-    (documents-back (due + 48 * e .rows) (some (e .id)) es later (f .1) (each-drop RowFits (e .rows) ws g) (bad .1) rest (a .1) (b .1))
+    documents-step due before e es ws (documentsIn nodeIn es (deal es later)) (f .0) (entry-rules due before e (bad .0)) g (omega arith) (a .0) (b .0)
+    (documents-back (due + rowSize * e .rows) (some (e .id)) es later (f .1) (each-drop RowFits (e .rows) ws g) (bad .1) rest (a .1) (b .1))

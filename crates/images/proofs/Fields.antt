@@ -7,7 +7,9 @@ use native.Mathlib.Omega.{arith}
 use lib.ListN.{length, drop, length-append, length-drop, length-map, take-append-drop}
 use lib.Seq.{drop-at, drop-drop, take-all}
 use Rattle.rules.specs.Bytes.{be, value, part, pieces, join, Bytes}
-use Rattle.rules.specs.Image.{Head, headOf, Entry, entryOf, Row, rowOf, entriesOf, rowsOf, totalLength}
+use Rattle.rules.specs.Image.{entriesOf, rowsOf, totalLength}
+use Rattle.rules.specs.Layout.{Head, headOf, Entry, entryOf, Row, rowOf, entrySize, rowSize, documentsAt, revisionsAt, headZeroAt, sequenceAt, totalAt, headSize}
+use Rattle.rules.specs.Room.{idMost}
 use Rattle.rules.proofs.ByteLaws.{length-be, bytes-be, value-be, value-below, bytes-append, bytes-drop, bytes-part, length-part, part-front, part-past, number-next, length-pieces}
 use Rattle.images.proofs.Lists.{Each, each-map, each-onto, each-piece, length-all, bytes-all, read-all, write-all}
 use Rattle.images.proofs.Rows.{rowWith, RowFits, length-rowWith, bytes-rowWith, row-read, row-fits, row-written}
@@ -28,7 +30,7 @@ pub record HeadFits (h : Head) : Type 0 where
   pub seq : h .seq < 4294967296
   pub total : h .total < 4294967296
 
-pub length-headWith : (h : Head) → length (headWith h) ≡ 16
+pub length-headWith : (h : Head) → length (headWith h) ≡ headSize
 unfolding headWith
 length-headWith h = simp (length-append, length-be)
 
@@ -76,38 +78,38 @@ head-read h t f =
     ap value (p4 4 4 ∙ (part-past S t5 4 0 4 s4 ∙ part-front T t 4 (length-be 4 (h .total)))) ∙ value-be 4 (h .total) (f .total) in
     λ i. record { edition = edition i; documents = documents i; revisions = revisions i; zero = zero i; seq = seq i; total = total i }
 
-module _ (s : List ℕ) (p : Bytes s) (size : 16 ≤ length s) where
+module _ (s : List ℕ) (p : Bytes s) (size : headSize ≤ length s) where
   pub head-fits : HeadFits (headOf s)
   unfolding headOf
   head-fits = record {
     edition = value-below 2 (part 0 2 s) (length-part 0 2 s (omega arith)) (bytes-part 0 2 s p);
-    documents = value-below 2 (part 2 2 s) (length-part 2 2 s (omega arith)) (bytes-part 2 2 s p);
-    revisions = value-below 2 (part 4 2 s) (length-part 4 2 s (omega arith)) (bytes-part 4 2 s p);
-    zero = value-below 2 (part 6 2 s) (length-part 6 2 s (omega arith)) (bytes-part 6 2 s p);
-    seq = value-below 4 (part 8 4 s) (length-part 8 4 s (omega arith)) (bytes-part 8 4 s p);
-    total = value-below 4 (part 12 4 s) (length-part 12 4 s (omega arith)) (bytes-part 12 4 s p);
+    documents = value-below 2 (part documentsAt 2 s) (length-part documentsAt 2 s (omega arith)) (bytes-part documentsAt 2 s p);
+    revisions = value-below 2 (part revisionsAt 2 s) (length-part revisionsAt 2 s (omega arith)) (bytes-part revisionsAt 2 s p);
+    zero = value-below 2 (part headZeroAt 2 s) (length-part headZeroAt 2 s (omega arith)) (bytes-part headZeroAt 2 s p);
+    seq = value-below 4 (part sequenceAt 4 s) (length-part sequenceAt 4 s (omega arith)) (bytes-part sequenceAt 4 s p);
+    total = value-below 4 (part totalAt 4 s) (length-part totalAt 4 s (omega arith)) (bytes-part totalAt 4 s p);
   }
 
   -- what is read is written back
-  pub head-written : headWith (headOf s) ++ drop 16 s ≡ s
+  pub head-written : headWith (headOf s) ++ drop headSize s ≡ s
   unfolding headWith headOf
   head-written =
-      let step : (k n m : ℕ) (t : List ℕ) → k + n ≡ m → m ≤ 16 → t ++ drop 16 s ≡ drop m s
-      → (be n (value (part k n s)) ++ t) ++ drop 16 s ≡ drop k s =
+      let step : (k n m : ℕ) (t : List ℕ) → k + n ≡ m → m ≤ headSize → t ++ drop headSize s ≡ drop m s
+      → (be n (value (part k n s)) ++ t) ++ drop headSize s ≡ drop k s =
       λ k n m t e h q.
-      append-assoc (be n (value (part k n s))) t (drop 16 s)
+      append-assoc (be n (value (part k n s))) t (drop headSize s)
       ∙ (ap (λ (l : List ℕ). be n (value (part k n s)) ++ l) q ∙ number-next k n m s p e (omega arith)) in
-      let t12 : List ℕ = be 4 (value (part 12 4 s)) in
-      let t8 : List ℕ = be 4 (value (part 8 4 s)) ++ t12 in
-      let t6 : List ℕ = be 2 (value (part 6 2 s)) ++ t8 in
-      let t4 : List ℕ = be 2 (value (part 4 2 s)) ++ t6 in
-      let t2 : List ℕ = be 2 (value (part 2 2 s)) ++ t4 in
-      let e12 : t12 ++ drop 16 s ≡ drop 12 s = number-next 12 4 16 s p refl (omega arith) in
-      let e8 : t8 ++ drop 16 s ≡ drop 8 s = step 8 4 12 t12 refl (omega arith) e12 in
-      let e6 : t6 ++ drop 16 s ≡ drop 6 s = step 6 2 8 t8 refl (omega arith) e8 in
-      let e4 : t4 ++ drop 16 s ≡ drop 4 s = step 4 2 6 t6 refl (omega arith) e6 in
-      let e2 : t2 ++ drop 16 s ≡ drop 2 s = step 2 2 4 t4 refl (omega arith) e4 in
-      step 0 2 2 t2 refl (omega arith) e2
+      let tTotal : List ℕ = be 4 (value (part totalAt 4 s)) in
+      let tSeq : List ℕ = be 4 (value (part sequenceAt 4 s)) ++ tTotal in
+      let tZero : List ℕ = be 2 (value (part headZeroAt 2 s)) ++ tSeq in
+      let tRevisions : List ℕ = be 2 (value (part revisionsAt 2 s)) ++ tZero in
+      let tDocuments : List ℕ = be 2 (value (part documentsAt 2 s)) ++ tRevisions in
+      let eTotal : tTotal ++ drop headSize s ≡ drop totalAt s = number-next totalAt 4 headSize s p refl (omega arith) in
+      let eSeq : tSeq ++ drop headSize s ≡ drop sequenceAt s = step sequenceAt 4 totalAt tTotal refl (omega arith) eTotal in
+      let eZero : tZero ++ drop headSize s ≡ drop headZeroAt s = step headZeroAt 2 sequenceAt tSeq refl (omega arith) eSeq in
+      let eRevisions : tRevisions ++ drop headSize s ≡ drop revisionsAt s = step revisionsAt 2 headZeroAt tZero refl (omega arith) eZero in
+      let eDocuments : tDocuments ++ drop headSize s ≡ drop documentsAt s = step documentsAt 2 revisionsAt tRevisions refl (omega arith) eRevisions in
+      step 0 2 documentsAt tDocuments refl (omega arith) eDocuments
 
 -- ---- the whole
 
@@ -124,11 +126,11 @@ pub record Fits (h : Head) (es : List Entry) (ws : List Row) : Type 0 where
   pub revisions : length ws ≡ h .revisions
 
 module _ (h : Head) (es : List Entry) (ws : List Row) (f : Fits h es ws) where
-  entries-length : length (join (map entryWith es)) ≡ length es * 44
-  entries-length = length-all entryWith entryOf 44 es (each-map EntryFits (λ e. length (entryWith e) ≡ 44) length-entryWith es (f .entries))
+  entries-length : length (join (map entryWith es)) ≡ length es * entrySize
+  entries-length = length-all entryWith entryOf entrySize es (each-map EntryFits (λ e. length (entryWith e) ≡ entrySize) length-entryWith es (f .entries))
 
-  rows-length : length (join (map rowWith ws)) ≡ length ws * 48
-  rows-length = length-all rowWith rowOf 48 ws (each-map RowFits (λ w. length (rowWith w) ≡ 48) length-rowWith ws (f .rows))
+  rows-length : length (join (map rowWith ws)) ≡ length ws * rowSize
+  rows-length = length-all rowWith rowOf rowSize ws (each-map RowFits (λ w. length (rowWith w) ≡ rowSize) length-rowWith ws (f .rows))
 
   pub length-imageWith : length (imageWith h es ws) ≡ totalLength (h .documents) (h .revisions)
   unfolding imageWith
@@ -153,16 +155,16 @@ module _ (h : Head) (es : List Entry) (ws : List Row) (f : Fits h es ws) where
   unfolding imageWith
   image-head = head-read h (join (map entryWith es) ++ join (map rowWith ws)) (f .head)
 
-  pub image-entries : Each (λ e. e .size ≤ 32) es → entriesOf (imageWith h es ws) ≡ es
+  pub image-entries : Each (λ e. e .size ≤ idMost) es → entriesOf (imageWith h es ws) ≡ es
   unfolding entriesOf imageWith
   image-entries small =
-      ap₂ (λ (n : ℕ) (l : List ℕ). map entryOf (pieces n 44 l))
+      ap₂ (λ (n : ℕ) (l : List ℕ). map entryOf (pieces n entrySize l))
       (ap (λ (x : Head). x .documents) image-head ∙ sym (f .documents))
-      (drop-at (headWith h) (join (map entryWith es) ++ join (map rowWith ws)) 16 (length-headWith h))
-      ∙ read-all entryWith entryOf 44 es (join (map rowWith ws))
-      (each-map EntryFits (λ e. length (entryWith e) ≡ 44) length-entryWith es (f .entries)) (go es (f .entries) small)
+      (drop-at (headWith h) (join (map entryWith es) ++ join (map rowWith ws)) headSize (length-headWith h))
+      ∙ read-all entryWith entryOf entrySize es (join (map rowWith ws))
+      (each-map EntryFits (λ e. length (entryWith e) ≡ entrySize) length-entryWith es (f .entries)) (go es (f .entries) small)
     where
-      go : (xs : List Entry) → Each EntryFits xs → Each (λ e. e .size ≤ 32) xs → Each (λ e. entryOf (entryWith e) ≡ e) xs
+      go : (xs : List Entry) → Each EntryFits xs → Each (λ e. e .size ≤ idMost) xs → Each (λ e. entryOf (entryWith e) ≡ e) xs
       go [] a b = tt
       go (x ∷ xs) a b = (entry-read x (a .0) (b .0), go xs (a .1) (b .1))
 
@@ -175,12 +177,12 @@ module _ (h : Head) (es : List Entry) (ws : List Row) (f : Fits h es ws) where
       let r : headOf (headWith h ++ (E ++ W)) .revisions ≡ length ws = ap (λ (x : Head). x .revisions) image-head ∙ sym (f .revisions) in
       let a = length-headWith h in
       let b = entries-length in
-      let n : length (headWith h ++ E) ≡ 16 + 44 * headOf (headWith h ++ (E ++ W)) .documents = length-append (headWith h) E ∙ omega arith in
-      let rest : drop (16 + 44 * headOf (headWith h ++ (E ++ W)) .documents) (headWith h ++ (E ++ W)) ≡ W ++ [] =
-      ap (drop (16 + 44 * headOf (headWith h ++ (E ++ W)) .documents)) (sym (append-assoc (headWith h) E W))
-      ∙ (drop-at (headWith h ++ E) W (16 + 44 * headOf (headWith h ++ (E ++ W)) .documents) n ∙ sym (append-nil W)) in
-      ap₂ (λ (k : ℕ) (l : List ℕ). map rowOf (pieces k 48 l)) r rest
-      ∙ read-all rowWith rowOf 48 ws [] (each-map RowFits (λ w. length (rowWith w) ≡ 48) length-rowWith ws (f .rows))
+      let n : length (headWith h ++ E) ≡ headSize + entrySize * headOf (headWith h ++ (E ++ W)) .documents = length-append (headWith h) E ∙ omega arith in
+      let rest : drop (headSize + entrySize * headOf (headWith h ++ (E ++ W)) .documents) (headWith h ++ (E ++ W)) ≡ W ++ [] =
+      ap (drop (headSize + entrySize * headOf (headWith h ++ (E ++ W)) .documents)) (sym (append-assoc (headWith h) E W))
+      ∙ (drop-at (headWith h ++ E) W (headSize + entrySize * headOf (headWith h ++ (E ++ W)) .documents) n ∙ sym (append-nil W)) in
+      ap₂ (λ (k : ℕ) (l : List ℕ). map rowOf (pieces k rowSize l)) r rest
+      ∙ read-all rowWith rowOf rowSize ws [] (each-map RowFits (λ w. length (rowWith w) ≡ rowSize) length-rowWith ws (f .rows))
       (each-map RowFits (λ w. rowOf (rowWith w) ≡ w) row-read ws (f .rows))
 
 module _ (s : List ℕ) (p : Bytes s) (size : length s ≡ totalLength (headOf s .documents) (headOf s .revisions)) where
@@ -191,12 +193,12 @@ module _ (s : List ℕ) (p : Bytes s) (size : length s ≡ totalLength (headOf s
       let r : ℕ = headOf s .revisions in
       record {
         head = head-fits s p (omega arith);
-        entries = each-onto EntryFits entryOf (pieces d 44 (drop 16 s))
-            (each-piece (λ b. EntryFits (entryOf b)) 44 entry-fits d (drop 16 s) (bytes-drop 16 s p) (simp length-drop (omega arith)));
-        rows = each-onto RowFits rowOf (pieces r 48 (drop (16 + 44 * d) s))
-            (each-piece (λ b. RowFits (rowOf b)) 48 row-fits r (drop (16 + 44 * d) s) (bytes-drop (16 + 44 * d) s p) (simp length-drop (omega arith)));
-        documents = length-map (pieces d 44 (drop 16 s)) entryOf ∙ length-pieces d 44 (drop 16 s);
-        revisions = length-map (pieces r 48 (drop (16 + 44 * d) s)) rowOf ∙ length-pieces r 48 (drop (16 + 44 * d) s);
+        entries = each-onto EntryFits entryOf (pieces d entrySize (drop headSize s))
+            (each-piece (λ b. EntryFits (entryOf b)) entrySize entry-fits d (drop headSize s) (bytes-drop headSize s p) (simp length-drop (omega arith)));
+        rows = each-onto RowFits rowOf (pieces r rowSize (drop (headSize + entrySize * d) s))
+            (each-piece (λ b. RowFits (rowOf b)) rowSize row-fits r (drop (headSize + entrySize * d) s) (bytes-drop (headSize + entrySize * d) s p) (simp length-drop (omega arith)));
+        documents = length-map (pieces d entrySize (drop headSize s)) entryOf ∙ length-pieces d entrySize (drop headSize s);
+        revisions = length-map (pieces r rowSize (drop (headSize + entrySize * d) s)) rowOf ∙ length-pieces r rowSize (drop (headSize + entrySize * d) s);
       }
 
   -- what is read is written back
@@ -205,15 +207,15 @@ module _ (s : List ℕ) (p : Bytes s) (size : length s ≡ totalLength (headOf s
   image-written =
       let d : ℕ = headOf s .documents in
       let r : ℕ = headOf s .revisions in
-      let tail : List ℕ = drop (16 + 44 * d) s in
-      let rows : join (map rowWith (map rowOf (pieces r 48 tail))) ≡ tail =
-      write-all rowWith rowOf 48 row-written r tail (bytes-drop (16 + 44 * d) s p) (simp length-drop (omega arith))
-      ∙ take-all (r * 48) tail (simp length-drop (omega arith)) in
-      let k : 16 + d * 44 ≡ 16 + 44 * d = omega arith in
-      let entries : join (map entryWith (map entryOf (pieces d 44 (drop 16 s)))) ++ tail ≡ drop 16 s =
+      let tail : List ℕ = drop (headSize + entrySize * d) s in
+      let rows : join (map rowWith (map rowOf (pieces r rowSize tail))) ≡ tail =
+      write-all rowWith rowOf rowSize row-written r tail (bytes-drop (headSize + entrySize * d) s p) (simp length-drop (omega arith))
+      ∙ take-all (r * rowSize) tail (simp length-drop (omega arith)) in
+      let k : headSize + d * entrySize ≡ headSize + entrySize * d = omega arith in
+      let entries : join (map entryWith (map entryOf (pieces d entrySize (drop headSize s)))) ++ tail ≡ drop headSize s =
       ap₂ (λ (a b : List ℕ). a ++ b)
-      (write-all entryWith entryOf 44 entry-written d (drop 16 s) (bytes-drop 16 s p) (simp length-drop (omega arith)))
-      (ap (λ (n : ℕ). drop n s) (sym k) ∙ sym (drop-drop (d * 44) 16 s))
-      ∙ take-append-drop (d * 44) (drop 16 s) in
-      ap (λ (l : List ℕ). headWith (headOf s) ++ (join (map entryWith (map entryOf (pieces d 44 (drop 16 s)))) ++ l)) rows
+      (write-all entryWith entryOf entrySize entry-written d (drop headSize s) (bytes-drop headSize s p) (simp length-drop (omega arith)))
+      (ap (λ (n : ℕ). drop n s) (sym k) ∙ sym (drop-drop (d * entrySize) headSize s))
+      ∙ take-append-drop (d * entrySize) (drop headSize s) in
+      ap (λ (l : List ℕ). headWith (headOf s) ++ (join (map entryWith (map entryOf (pieces d entrySize (drop headSize s)))) ++ l)) rows
       ∙ (ap (λ (l : List ℕ). headWith (headOf s) ++ l) entries ∙ head-written s p (omega arith))

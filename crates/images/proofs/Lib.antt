@@ -10,5 +10,4 @@ pub mod Sequences
 pub mod Documents
 pub mod Rules
 pub mod Replicas
-pub mod Bridges
 pub mod Theorems

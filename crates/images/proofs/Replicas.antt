@@ -8,10 +8,12 @@ use native.Mathlib.Omega.{arith}
 use lib.ListN.{length}
 use Rattle.rules.specs.Bytes.{join, Bytes}
 use Rattle.rules.specs.Choice.{firstThat}
-use Rattle.rules.specs.Image.{Head, Entry, Row, headOf, entriesOf, rowsOf, deal, documentsIn, replicaIn, rowBytes, headBytes, contentsBytes, bodyBytes, image, faults, totalLength, sumRows, largest, inEach, badRows, badLinks}
+use Rattle.rules.specs.Faults.{faults, sumRows, largest, inEach, badRows, badLinks}
+use Rattle.rules.specs.Image.{entriesOf, rowsOf, deal, documentsIn, replicaIn, rowBytes, headBytes, contentsBytes, bodyBytes, image, totalLength, nodeIn}
+use Rattle.rules.specs.Layout.{Head, Entry, Row, headOf, entrySize, rowSize, headSize}
 use Rattle.rules.specs.Map.{Map}
 use Rattle.rules.specs.Replica.{Id, Tree, Document, Replica, documentOf, revisionsHeld, IsReplica}
-use Rattle.rules.specs.Room.{documentsMost, revisionsMost, last}
+use Rattle.rules.specs.Room.{documentsMost, revisionsMost, seqMost}
 use Rattle.rules.proofs.ByteLaws.{join-append}
 use Rattle.rules.proofs.OrderLaws.{bytesOrder}
 use Rattle.images.proofs.Lists.{Each, each-onto, each-from, map-append}
@@ -38,7 +40,7 @@ headFor r = record {
 
 -- where the first row of the first document is
 abbrev bodies : Map Id Document → ℕ
-bodies ds = 16 + 44 * length ds
+bodies ds = headSize + entrySize * length ds
 
 -- a replica's entries
 abbrev entriesFrom : Replica → List Entry
@@ -48,7 +50,7 @@ contents-fields : (due : ℕ) (ds : Map Id Document) → contentsBytes due ds �
 unfolding contentsBytes entriesFor join
 contents-fields due [] = refl
 contents-fields due (d ∷ ds) =
-    ap₂ (λ (a b : List ℕ). a ++ b) (entryBytes-fields due d) (contents-fields (due + 48 * length (d .1 .tree)) ds)
+    ap₂ (λ (a b : List ℕ). a ++ b) (entryBytes-fields due d) (contents-fields (due + rowSize * length (d .1 .tree)) ds)
 
 body-fields : (ds : Map Id Document) → bodyBytes ds ≡ join (map rowWith (rowsFor ds))
 unfolding bodyBytes rowsFor join
@@ -160,9 +162,9 @@ module _ (r : Replica) (i : IsReplica r) where
   unfolding replicaIn headFor
   image-read =
       let due : ℕ = bodies (r .documents) in
-      let documents : documentsIn (entriesOf (image r)) (deal (entriesOf (image r)) (rowsOf (image r))) ≡ r .documents =
-      ap₂ (λ (es : List Entry) (ws : List Row). documentsIn es (deal es ws)) entries-of rows-of
-      ∙ (ap (documentsIn (entriesFor due (r .documents))) (deal-rows due (r .documents)) ∙ documents-read due (r .documents) docs-each) in
+      let documents : documentsIn nodeIn (entriesOf (image r)) (deal (entriesOf (image r)) (rowsOf (image r))) ≡ r .documents =
+      ap₂ (λ (es : List Entry) (ws : List Row). documentsIn nodeIn es (deal es ws)) entries-of rows-of
+      ∙ (ap (documentsIn nodeIn (entriesFor due (r .documents))) (deal-rows due (r .documents)) ∙ documents-read due (r .documents) docs-each) in
       let seq : headOf (image r) .seq ≡ r .seq .0 = ap (λ (h : Head). h .seq) head-of in
       λ j. record { seq = record { 0 = seq j }; documents = documents j }
 
@@ -175,23 +177,23 @@ module _ (s : List ℕ) (p : Bytes s) (e : firstThat (faults s) ≡ none) where
   size : length s ≡ totalLength (headOf s .documents) (headOf s .revisions)
   size = sym (rules .given) ∙ rules .total
 
-  held : DocsHold (16 + 44 * headOf s .documents) none (entriesOf s) (rowsOf s) (replicaIn s .documents)
+  held : DocsHold (headSize + entrySize * headOf s .documents) none (entriesOf s) (rowsOf s) (replicaIn s .documents)
   unfolding replicaIn
   held =
       let f = image-fits s p size in
-      documents-back (16 + 44 * headOf s .documents) none (entriesOf s) (rowsOf s) (f .entries) (f .rows) (rules .entries) (rules .sum ∙ sym (f .revisions)) (rules .rows) (rules .links)
+      documents-back (headSize + entrySize * headOf s .documents) none (entriesOf s) (rowsOf s) (f .entries) (f .rows) (rules .entries) (rules .sum ∙ sym (f .revisions)) (rules .rows) (rules .links)
 
   documents-count : length (replicaIn s .documents) ≡ headOf s .documents
   documents-count =
-      sym (length-entriesFor (16 + 44 * headOf s .documents) (replicaIn s .documents)) ∙ (ap length (held .entries) ∙ image-fits s p size .documents)
+      sym (length-entriesFor (headSize + entrySize * headOf s .documents) (replicaIn s .documents)) ∙ (ap length (held .entries) ∙ image-fits s p size .documents)
 
   revisions-count : revisionsHeld (replicaIn s .documents) ≡ headOf s .revisions
   revisions-count =
-      sym (sum-entriesFor (16 + 44 * headOf s .documents) (replicaIn s .documents)) ∙ (ap sumRows (held .entries) ∙ rules .sum)
+      sym (sum-entriesFor (headSize + entrySize * headOf s .documents) (replicaIn s .documents)) ∙ (ap sumRows (held .entries) ∙ rules .sum)
 
   seqs-held : Each (λ n. 1 ≤ n) (map seqOf (replicaIn s .documents)) × Distinct (map seqOf (replicaIn s .documents))
   seqs-held =
-      let due : ℕ = 16 + 44 * headOf s .documents in
+      let due : ℕ = headSize + entrySize * headOf s .documents in
       let same : map (λ (x : Entry). x .seq) (entriesOf s) ≡ map seqOf (replicaIn s .documents) =
       ap (map (λ (x : Entry). x .seq)) (sym (held .entries)) ∙ seqs-entriesFor due (replicaIn s .documents) in
       subst (λ (ns : List ℕ). Each (λ n. 1 ≤ n) ns × Distinct ns) same (seqs-back (entriesOf s) (rules .seqs))
@@ -204,7 +206,7 @@ module _ (s : List ℕ) (p : Bytes s) (e : firstThat (faults s) ≡ none) where
   unfolding documentOf
   held-replica =
       let ds : Map Id Document = replicaIn s .documents in
-      let due : ℕ = 16 + 44 * headOf s .documents in
+      let due : ℕ = headSize + entrySize * headOf s .documents in
       record {
         ascending = held .ascending;
         documents = λ k d q.
@@ -218,7 +220,7 @@ module _ (s : List ℕ) (p : Bytes s) (e : firstThat (faults s) ≡ none) where
         documents-most = subst (λ (n : ℕ). n ≤ documentsMost) (sym documents-count) (rules .documents);
         revisions-most = subst (λ (n : ℕ). n ≤ revisionsMost) (sym revisions-count) (rules .revisions);
         seq-largest = seq-is ∙ (rules .largest ∙ (ap largest (sym (held .entries)) ∙ largest-entriesFor due ds));
-        seq-most = subst (λ (n : ℕ). n ≤ last) (sym seq-is) (let h = image-fits s p size .head .seq in omega arith);
+        seq-most = subst (λ (n : ℕ). n ≤ seqMost) (sym seq-is) (let h = image-fits s p size .head .seq in omega arith);
       }
 
   held-head : headFor (replicaIn s) ≡ headOf s
@@ -234,6 +236,6 @@ module _ (s : List ℕ) (p : Bytes s) (e : firstThat (faults s) ≡ none) where
   held-image =
       let ds : Map Id Document = replicaIn s .documents in
       image-fields (replicaIn s)
-      ∙ (ap (λ (n : ℕ). imageWith (headFor (replicaIn s)) (entriesFor (16 + 44 * n) ds) (rowsFor ds)) documents-count
-      ∙ (ap (λ (h : Head). imageWith h (entriesFor (16 + 44 * headOf s .documents) ds) (rowsFor ds)) held-head
+      ∙ (ap (λ (n : ℕ). imageWith (headFor (replicaIn s)) (entriesFor (headSize + entrySize * n) ds) (rowsFor ds)) documents-count
+      ∙ (ap (λ (h : Head). imageWith h (entriesFor (headSize + entrySize * headOf s .documents) ds) (rowsFor ds)) held-head
       ∙ (ap₂ (imageWith (headOf s)) (held .entries) (held .rows) ∙ image-written s p size)))

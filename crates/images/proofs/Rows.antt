@@ -1,4 +1,4 @@
--- One row of 48 bytes: its bytes are read back, its fields are written back, and a row that is not bad is
+-- One row: its bytes are read back, its fields are written back, and a row that is not bad is
 -- one known revision. Assumes nothing.
 use mathlib.Core.Path.{_≡_, refl, sym, ap, _∙_, subst}
 use mathlib.Core.Bool.{Bool, true, false, not, _&&_}
@@ -13,11 +13,13 @@ use borrow.Author.Tests.{ltb-false, eqb-true, eqb-false, not-true, not-false, le
 use Rattle.rules.specs.declared.Content.{Content}
 use Rattle.rules.specs.declared.Content.the-variants.{Live, Deleted}
 use Rattle.rules.specs.declared.Revision.{Revision}
-use Rattle.rules.specs.Bytes.{be, value, part, Bytes}
+use Rattle.rules.specs.Bytes.{be, value, part, Bytes, allZero}
 use Rattle.rules.specs.Choice.{pick}
-use Rattle.rules.specs.Image.{Row, rowOf, rowBytes, badRow, parentOfRow, nodeIn, contentOfKind, kindOf, labelOf, flagOf, parentHash, allZero, rowSize}
+use Rattle.rules.specs.Faults.{badRow}
+use Rattle.rules.specs.Image.{rowBytes, parentOfRow, nodeIn, contentOfKind, kindOf, labelOf, flagOf, parentHash}
+use Rattle.rules.specs.Layout.{Row, rowOf, rowSize, hashIn, kindIn, knownIn, rowZeroIn, parentHashIn, labelIn}
 use Rattle.rules.specs.Replica.{Hash, revision, Node, IsRevision, IsContent}
-use Rattle.rules.specs.Room.{last, labels}
+use Rattle.rules.specs.Room.{numberMost, labels, hashSize}
 use Rattle.rules.proofs.MapLaws.{none≢some, some-inj}
 use Rattle.images.proofs.Tests.{true≢false, none7, all7, both-none, and-none, zeros, all-zeros}
 use Rattle.rules.proofs.ByteLaws.{length-be, bytes-be, value-be, value-below, bytes-append, bytes-part, bytes-at, bytes-zeros, length-part, part-front, part-whole, part-past, getD-past, part-next, byte-next, number-next, number-last}
@@ -33,16 +35,16 @@ rowWith w =
 -- fields that have room in their bytes
 pub record RowFits (w : Row) : Type 0 where
   pub number : w .rev .number .0 < 4294967296
-  pub hash : length (w .rev .hash) ≡ 16
+  pub hash : length (w .rev .hash) ≡ hashSize
   pub hash-bytes : Bytes (w .rev .hash)
   pub kind : w .kind < 256
   pub flag : w .flag < 256
   pub zero : w .zero < 65536
-  pub parent : length (w .parent) ≡ 16
+  pub parent : length (w .parent) ≡ hashSize
   pub parent-bytes : Bytes (w .parent)
-  pub label : w .label < 18446744073709551616
+  pub label : w .label < labels
 
-pub length-rowWith : (w : Row) → RowFits w → length (rowWith w) ≡ 48
+pub length-rowWith : (w : Row) → RowFits w → length (rowWith w) ≡ rowSize
 unfolding rowWith
 length-rowWith w f =
     let h = f .hash in let p = f .parent in simp (length-append, length-be) (omega arith)
@@ -73,48 +75,48 @@ row-read w f =
     let t1 : List ℕ = H ++ t2 in
     let n4 : length N ≡ 4 = length-be 4 (w .rev .number .0) in
     let z2 : length Z ≡ 2 = length-be 2 (w .zero) in
-    let h : length H ≡ 16 = f .hash in
-    let past : (k n : ℕ) → part (4 + (16 + k)) n (N ++ t1) ≡ part k n t2 =
-    λ k n. part-past N t1 4 (16 + k) n n4 ∙ part-past H t2 16 k n h in
-    let past1 : (k : ℕ) → getD (N ++ t1) (4 + (16 + k)) 0 ≡ getD t2 k 0 =
-    λ k. getD-past N t1 4 (16 + k) n4 ∙ getD-past H t2 16 k h in
-    let e0 : value (part 0 4 (N ++ t1)) ≡ w .rev .number .0 = ap value (part-front N t1 4 n4) ∙ value-be 4 (w .rev .number .0) (f .number) in
-    let e4 : part 4 16 (N ++ t1) ≡ H = part-past N t1 4 0 16 n4 ∙ part-front H t2 16 h in
-    let e20 : getD (N ++ t1) 20 0 ≡ w .kind = past1 0 in
-    let e21 : getD (N ++ t1) 21 0 ≡ w .flag = past1 1 in
-    let e22 : value (part 22 2 (N ++ t1)) ≡ w .zero =
+    let h : length H ≡ hashSize = f .hash in
+    let past : (k n : ℕ) → part (hashIn + (hashSize + k)) n (N ++ t1) ≡ part k n t2 =
+    λ k n. part-past N t1 4 (hashSize + k) n n4 ∙ part-past H t2 hashSize k n h in
+    let past1 : (k : ℕ) → getD (N ++ t1) (hashIn + (hashSize + k)) 0 ≡ getD t2 k 0 =
+    λ k. getD-past N t1 4 (hashSize + k) n4 ∙ getD-past H t2 hashSize k h in
+    let eNumber : value (part 0 4 (N ++ t1)) ≡ w .rev .number .0 = ap value (part-front N t1 4 n4) ∙ value-be 4 (w .rev .number .0) (f .number) in
+    let eHash : part hashIn hashSize (N ++ t1) ≡ H = part-past N t1 4 0 hashSize n4 ∙ part-front H t2 hashSize h in
+    let eKind : getD (N ++ t1) kindIn 0 ≡ w .kind = past1 0 in
+    let eKnown : getD (N ++ t1) knownIn 0 ≡ w .flag = past1 1 in
+    let eZero : value (part rowZeroIn 2 (N ++ t1)) ≡ w .zero =
     ap value (past 2 2 ∙ (part-past (w .kind ∷ w .flag ∷ []) (Z ++ t3) 2 0 2 refl ∙ part-front Z t3 2 z2)) ∙ value-be 2 (w .zero) (f .zero) in
-    let e24 : part 24 16 (N ++ t1) ≡ P =
-    past 4 16 ∙ (part-past (w .kind ∷ w .flag ∷ []) (Z ++ t3) 2 2 16 refl ∙ (part-past Z t3 2 0 16 z2 ∙ part-front P L 16 (f .parent))) in
-    let e40 : value (part 40 8 (N ++ t1)) ≡ w .label =
+    let eParent : part parentHashIn hashSize (N ++ t1) ≡ P =
+    past 4 hashSize ∙ (part-past (w .kind ∷ w .flag ∷ []) (Z ++ t3) 2 2 hashSize refl ∙ (part-past Z t3 2 0 hashSize z2 ∙ part-front P L hashSize (f .parent))) in
+    let eLabel : value (part labelIn 8 (N ++ t1)) ≡ w .label =
     ap value
-    (past 20 8
-    ∙ (part-past (w .kind ∷ w .flag ∷ []) (Z ++ t3) 2 18 8 refl
-    ∙ (part-past Z t3 2 16 8 z2 ∙ (part-past P L 16 0 8 (f .parent) ∙ part-whole L 8 (length-be 8 (w .label))))))
+    (past (4 + hashSize) 8
+    ∙ (part-past (w .kind ∷ w .flag ∷ []) (Z ++ t3) 2 (2 + hashSize) 8 refl
+    ∙ (part-past Z t3 2 hashSize 8 z2 ∙ (part-past P L hashSize 0 8 (f .parent) ∙ part-whole L 8 (length-be 8 (w .label))))))
     ∙ value-be 8 (w .label) (f .label) in
     λ i. record {
-      rev = record { number = record { 0 = e0 i }; hash = e4 i };
-      kind = e20 i;
-      flag = e21 i;
-      zero = e22 i;
-      parent = e24 i;
-      label = e40 i;
+      rev = record { number = record { 0 = eNumber i }; hash = eHash i };
+      kind = eKind i;
+      flag = eKnown i;
+      zero = eZero i;
+      parent = eParent i;
+      label = eLabel i;
     }
 
-module _ (b : List ℕ) (p : Bytes b) (size : length b ≡ 48) where
+module _ (b : List ℕ) (p : Bytes b) (size : length b ≡ rowSize) where
   -- what is read fits
   pub row-fits : RowFits (rowOf b)
   unfolding rowOf
   row-fits = record {
     number = value-below 4 (part 0 4 b) (length-part 0 4 b (omega arith)) (bytes-part 0 4 b p);
-    hash = length-part 4 16 b (omega arith);
-    hash-bytes = bytes-part 4 16 b p;
-    kind = bytes-at b 20 p;
-    flag = bytes-at b 21 p;
-    zero = value-below 2 (part 22 2 b) (length-part 22 2 b (omega arith)) (bytes-part 22 2 b p);
-    parent = length-part 24 16 b (omega arith);
-    parent-bytes = bytes-part 24 16 b p;
-    label = value-below 8 (part 40 8 b) (length-part 40 8 b (omega arith)) (bytes-part 40 8 b p);
+    hash = length-part hashIn hashSize b (omega arith);
+    hash-bytes = bytes-part hashIn hashSize b p;
+    kind = bytes-at b kindIn p;
+    flag = bytes-at b knownIn p;
+    zero = value-below 2 (part rowZeroIn 2 b) (length-part rowZeroIn 2 b (omega arith)) (bytes-part rowZeroIn 2 b p);
+    parent = length-part parentHashIn hashSize b (omega arith);
+    parent-bytes = bytes-part parentHashIn hashSize b p;
+    label = value-below 8 (part labelIn 8 b) (length-part labelIn 8 b (omega arith)) (bytes-part labelIn 8 b p);
   }
 
   -- what is read is written back
@@ -122,19 +124,19 @@ module _ (b : List ℕ) (p : Bytes b) (size : length b ≡ 48) where
   unfolding rowWith rowOf
   row-written =
       let N : List ℕ = be 4 (value (part 0 4 b)) in
-      let Z : List ℕ = be 2 (value (part 22 2 b)) in
-      let L : List ℕ = be 8 (value (part 40 8 b)) in
-      let e40 : L ≡ drop 40 b = number-last 40 8 b p (sym size) in
-      let e24 : part 24 16 b ++ L ≡ drop 24 b =
-      ap (λ (l : List ℕ). part 24 16 b ++ l) e40 ∙ sym (part-next 24 16 40 b refl) in
-      let e22 : Z ++ (part 24 16 b ++ L) ≡ drop 22 b =
-      ap (λ (l : List ℕ). Z ++ l) e24 ∙ number-next 22 2 24 b p refl (omega arith) in
-      let e21 : _≡_ {A = List ℕ} (getD b 21 0 ∷ (Z ++ (part 24 16 b ++ L))) (drop 21 b) =
-      ap {B = List ℕ} (λ l. getD b 21 0 ∷ l) e22 ∙ sym (byte-next 21 22 b refl (omega arith)) in
-      let e20 : _≡_ {A = List ℕ} (getD b 20 0 ∷ getD b 21 0 ∷ (Z ++ (part 24 16 b ++ L))) (drop 20 b) =
-      ap {B = List ℕ} (λ l. getD b 20 0 ∷ l) e21 ∙ sym (byte-next 20 21 b refl (omega arith)) in
-      let e4 = ap (λ (l : List ℕ). part 4 16 b ++ l) e20 ∙ sym (part-next 4 16 20 b refl) in
-      ap (λ (l : List ℕ). N ++ l) e4 ∙ number-next 0 4 4 b p refl (omega arith)
+      let Z : List ℕ = be 2 (value (part rowZeroIn 2 b)) in
+      let L : List ℕ = be 8 (value (part labelIn 8 b)) in
+      let eLabel : L ≡ drop labelIn b = number-last labelIn 8 b p (sym size) in
+      let eParent : part parentHashIn hashSize b ++ L ≡ drop parentHashIn b =
+      ap (λ (l : List ℕ). part parentHashIn hashSize b ++ l) eLabel ∙ sym (part-next parentHashIn hashSize labelIn b refl) in
+      let eZero : Z ++ (part parentHashIn hashSize b ++ L) ≡ drop rowZeroIn b =
+      ap (λ (l : List ℕ). Z ++ l) eParent ∙ number-next rowZeroIn 2 parentHashIn b p refl (omega arith) in
+      let eKnown : _≡_ {A = List ℕ} (getD b knownIn 0 ∷ (Z ++ (part parentHashIn hashSize b ++ L))) (drop knownIn b) =
+      ap {B = List ℕ} (λ l. getD b knownIn 0 ∷ l) eZero ∙ sym (byte-next knownIn rowZeroIn b refl (omega arith)) in
+      let eKind : _≡_ {A = List ℕ} (getD b kindIn 0 ∷ getD b knownIn 0 ∷ (Z ++ (part parentHashIn hashSize b ++ L))) (drop kindIn b) =
+      ap {B = List ℕ} (λ l. getD b kindIn 0 ∷ l) eKnown ∙ sym (byte-next kindIn knownIn b refl (omega arith)) in
+      let eHash = ap (λ (l : List ℕ). part hashIn hashSize b ++ l) eKind ∙ sym (part-next hashIn hashSize kindIn b refl) in
+      ap (λ (l : List ℕ). N ++ l) eHash ∙ number-next 0 4 hashIn b p refl (omega arith)
 
 -- ---- a row that is not bad
 
@@ -214,7 +216,7 @@ flag-parent zero n h l = refl
 flag-parent (suc zero) n h l = refl
 flag-parent (suc (suc f)) n h l = absurd (omega arith)
 
-hash-parent : (f n : ℕ) (h : Hash) → f ≤ 1 → length h ≡ 16 → (f ≡ 0 → allZero h ≡ true) → parentHash (parentFrom f n h) ≡ h
+hash-parent : (f n : ℕ) (h : Hash) → f ≤ 1 → length h ≡ hashSize → (f ≡ 0 → allZero h ≡ true) → parentHash (parentFrom f n h) ≡ h
 unfolding parentFrom
 hash-parent zero n h l s z = ap (λ (k : ℕ). replicate k 0) (sym s) ∙ sym (zeros h (z refl))
 hash-parent (suc zero) n h l s z = refl
@@ -291,7 +293,7 @@ node-is w f r =
     let flag : w .flag ≡ 1 = omega arith in
     let above : n ≢ 1 = r .first flag in
     let low : 1 ≤ pred n = omega arith in
-    let high : pred n ≤ last = omega arith in
+    let high : pred n ≤ numberMost = omega arith in
     let one-lower : suc (pred n) ≡ n = omega arith in
     subst (λ (v : Revision). IsRevision v × (suc (v .number .0) ≡ n)) (parent-from (w .flag) n (w .parent) p e)
     (record { bytes = f .parent-bytes; size = f .parent; least = low; most = high }, one-lower) in
@@ -328,15 +330,15 @@ fields-fit v r =
     flag none = omega arith
     flag (some p) = omega arith
 
-    size : (p : Option Revision) → ((u : Revision) → p ≡ some u → IsRevision u) → length (parentHash p) ≡ 16
+    size : (p : Option Revision) → ((u : Revision) → p ≡ some u → IsRevision u) → length (parentHash p) ≡ hashSize
     size none h = refl
     size (some u) h = h u refl .size
 
     bytes : (p : Option Revision) → ((u : Revision) → p ≡ some u → IsRevision u) → Bytes (parentHash p)
-    bytes none h = bytes-zeros 16
+    bytes none h = bytes-zeros hashSize
     bytes (some u) h = h u refl .bytes
 
-    label : (c : Option Content) → ((d : Content) → c ≡ some d → IsContent d) → labelOf c < 18446744073709551616
+    label : (c : Option Content) → ((d : Content) → c ≡ some d → IsContent d) → labelOf c < labels
     label none h = omega arith
     label (some (Live n)) h = h (Live n) refl
     label (some Deleted) h = omega arith
@@ -368,39 +370,10 @@ fields-rules v r = record {
     first (some u) h k e o = let l = h u refl .least in let m = k u refl in omega arith
 
     hash : (p : Option Revision) → flagOf p ≡ 0 → allZero (parentHash p) ≡ true
-    hash none e = all-zeros 16
+    hash none e = all-zeros hashSize
     hash (some u) e = absurd (omega arith)
 
     label : (c : Option Content) → (kindOf c ≡ 1 → ⊥) → labelOf c ≡ 0
     label none h = refl
     label (some (Live n)) h = absurd (h refl)
     label (some Deleted) h = refl
-
--- ---- a known revision and 48 bytes
-
-module _ (v : Revision × Node) (r : IsRow v) where
-  pub length-row : length (rowBytes v) ≡ rowSize
-  length-row = ap length (rowBytes-fields v) ∙ length-rowWith (rowFor v) (fields-fit v r)
-
-  pub bytes-row : Bytes (rowBytes v)
-  bytes-row = subst Bytes (sym (rowBytes-fields v)) (bytes-rowWith (rowFor v) (fields-fit v r))
-
-  pub row-fields : rowOf (rowBytes v) ≡ rowFor v
-  row-fields = ap rowOf (rowBytes-fields v) ∙ row-read (rowFor v) (fields-fit v r)
-
-  -- a known revision's row is read back as it
-  pub row-round : nodeIn (rowOf (rowBytes v)) ≡ v
-  row-round = ap nodeIn row-fields ∙ row-of-node v r
-
-  pub row-not-bad : badRow (rowOf (rowBytes v)) ≡ false
-  row-not-bad = ap badRow row-fields ∙ rules-row (rowFor v) (fields-rules v r)
-
-module _ (b : List ℕ) (p : Bytes b) (size : length b ≡ rowSize) (e : badRow (rowOf b) ≡ false) where
-  pub row-is : IsRow (nodeIn (rowOf b))
-  row-is = node-is (rowOf b) (row-fits b p size) (row-rules (rowOf b) e)
-
-  -- a row that is not bad is written back from what it holds
-  pub row-back : rowBytes (nodeIn (rowOf b)) ≡ b
-  row-back =
-      rowBytes-fields (nodeIn (rowOf b))
-      ∙ (ap rowWith (node-of-row (rowOf b) (row-fits b p size) (row-rules (rowOf b) e)) ∙ row-written b p size)

@@ -11,61 +11,13 @@ use borrow.Author.Tests.{ltb-false, eqb-true, not-false, le-ltb, eq-eqb}
 use Rattle.rules.specs.declared.Fault.{Fault}
 use Rattle.rules.specs.declared.Fault.the-variants.{BadContents, BadSequence, BadRow, BadParent}
 use Rattle.rules.specs.Choice.{pick, orElse, firstThat}
-use Rattle.rules.specs.Image.{Head, Entry, Row, headOf, entriesOf, rowsOf, deal, sumRows, largest, firstTrue, badHead, badEntries, badContents, badSeqs, badSequence, badRows, badLinks, inEach, at, faults, totalLength}
+use Rattle.rules.specs.Faults.{sumRows, largest, firstTrue, badHead, badEntries, badContents, badSeqs, badSequence, badRows, badLinks, inEach, at, faults}
+use Rattle.rules.specs.Image.{entriesOf, rowsOf, deal, totalLength}
+use Rattle.rules.specs.Layout.{Head, Entry, Row, headOf, entrySize, headSize}
 use Rattle.rules.specs.Room.{documentsMost, revisionsMost}
 use Rattle.rules.proofs.MapLaws.{none≢some, some-inj}
+use Rattle.rules.proofs.ChoiceLaws.{none-holds, holds-none}
 use Rattle.images.proofs.Tests.{true≢false, none5, all5, AllFalse}
-use Rattle.images.proofs.Lists.{Each}
-
--- ---- the first condition that holds
-
-module _ {A : Type 0} where
-  -- no condition holds
-  abbrev pub NoneHolds : List (Bool × A) → Type 0
-  NoneHolds ts = Each (λ t. t .0 ≡ false) ts
-
-  pub none-holds : (ts : List (Bool × A)) → firstThat ts ≡ none → NoneHolds ts
-  unfolding firstThat
-  none-holds [] e = tt
-  none-holds (t ∷ ts) e = go (t .0) refl (λ q. none-holds ts q)
-    where
-      go : (b : Bool) → t .0 ≡ b → (firstThat ts ≡ none → NoneHolds ts) → NoneHolds (t ∷ ts)
-      go true p ih = absurd (none≢some (sym e ∙ ap (λ (b : Bool). pick b (some (t .1)) (firstThat ts)) p))
-      go false p ih = (p, ih (sym (ap (λ (b : Bool). pick b (some (t .1)) (firstThat ts)) p) ∙ e))
-
-  pub holds-none : (ts : List (Bool × A)) → NoneHolds ts → firstThat ts ≡ none
-  unfolding firstThat
-  holds-none [] h = refl
-  holds-none (t ∷ ts) h = ap (λ (b : Bool). pick b (some (t .1)) (firstThat ts)) (h .0) ∙ holds-none ts (h .1)
-
-  -- a is what the first condition that holds gives
-  pub record IsFirst (ts : List (Bool × A)) (a : A) : Type 0 where
-    pub before : List (Bool × A)
-    pub after : List (Bool × A)
-    pub split : ts ≡ before ++ ((true, a) ∷ after)
-    pub earlier : NoneHolds before
-
-  pub first-is : (ts : List (Bool × A)) (a : A) → firstThat ts ≡ some a → IsFirst ts a
-  unfolding firstThat
-  first-is [] a e = absurd (none≢some e)
-  first-is (t ∷ ts) a e = go (t .0) refl (λ q. first-is ts a q)
-    where
-      go : (b : Bool) → t .0 ≡ b → (firstThat ts ≡ some a → IsFirst ts a) → IsFirst (t ∷ ts) a
-      go true p ih =
-          let q : t .1 ≡ a = some-inj (sym (ap (λ (b : Bool). pick b (some (t .1)) (firstThat ts)) p) ∙ e) in
-          record { before = []; after = ts; split = ap {B = List (Bool × A)} (λ x. x ∷ ts) (λ i. (p i, q i)); earlier = tt }
-      go false p ih =
-          let f = ih (sym (ap (λ (b : Bool). pick b (some (t .1)) (firstThat ts)) p) ∙ e) in
-          record { before = t ∷ f .before; after = f .after; split = ap {B = List (Bool × A)} (λ l. t ∷ l) (f .split); earlier = (p, f .earlier) }
-
-  pub is-first : (ts : List (Bool × A)) (a : A) → IsFirst ts a → firstThat ts ≡ some a
-  unfolding firstThat
-  is-first ts a f = ap firstThat (f .split) ∙ go (f .before) (f .earlier)
-    where
-      go : (xs : List (Bool × A)) → NoneHolds xs → firstThat (xs ++ ((true, a) ∷ f .after)) ≡ some a
-      go [] h = refl
-      go (x ∷ xs) h =
-          ap (λ (b : Bool). pick b (some (x .1)) (firstThat (xs ++ ((true, a) ∷ f .after)))) (h .0) ∙ go xs (h .1)
 
 -- ---- the place of the first that is true
 
@@ -132,14 +84,14 @@ none-else a b p e q = ap₂ (λ (x : Option ℕ) (y : Bool). orElse x (pick y no
 
 -- what an image of n bytes with these fields meets
 pub record Meets (n : ℕ) (h : Head) (es : List Entry) (ws : List Row) : Type 0 where
-  pub long : 16 ≤ n
+  pub long : headSize ≤ n
   pub edition : h .edition ≡ 1
   pub zero : h .zero ≡ 0
   pub documents : h .documents ≤ documentsMost
   pub revisions : h .revisions ≤ revisionsMost
   pub total : h .total ≡ totalLength (h .documents) (h .revisions)
   pub given : h .total ≡ n
-  pub entries : AllFalse (badEntries (16 + 44 * h .documents) none es)
+  pub entries : AllFalse (badEntries (headSize + entrySize * h .documents) none es)
   pub sum : sumRows es ≡ h .revisions
   pub seqs : AllFalse (badSeqs [] es)
   pub largest : h .seq ≡ largest es
@@ -157,20 +109,20 @@ module _ (s : List ℕ) where
       none5 (not (eqb (h .zero) 0)) (ltb documentsMost (h .documents)) (ltb revisionsMost (h .revisions))
       (not (eqb (h .total) (totalLength (h .documents) (h .revisions)))) (not (eqb (h .total) (length s))) (f .1 .1 .0) in
       let contents =
-      else-none (firstTrue 0 (badEntries (16 + 44 * h .documents) none es)) (eqb (sumRows es) (h .revisions)) (h .documents)
+      else-none (firstTrue 0 (badEntries (headSize + entrySize * h .documents) none es)) (eqb (sumRows es) (h .revisions)) (h .documents)
       (at-none BadContents (badContents s) (f .1 .1 .1 .0)) in
       let sequence =
       else-none (firstTrue 0 (badSeqs [] es)) (eqb (h .seq) (largest es)) (h .documents)
       (at-none BadSequence (badSequence s) (f .1 .1 .1 .1 .0)) in
       record {
-        long = ltb-false (length s) 16 (f .0);
+        long = ltb-false (length s) headSize (f .0);
         edition = eqb-true (h .edition) 1 (not-false (eqb (h .edition) 1) (f .1 .0));
         zero = eqb-true (h .zero) 0 (not-false (eqb (h .zero) 0) (head .0));
         documents = ltb-false documentsMost (h .documents) (head .1);
         revisions = ltb-false revisionsMost (h .revisions) (head .2);
         total = eqb-true (h .total) (totalLength (h .documents) (h .revisions)) (not-false (eqb (h .total) (totalLength (h .documents) (h .revisions))) (head .3));
         given = eqb-true (h .total) (length s) (not-false (eqb (h .total) (length s)) (head .4));
-        entries = true-none 0 (badEntries (16 + 44 * h .documents) none es) (contents .0);
+        entries = true-none 0 (badEntries (headSize + entrySize * h .documents) none es) (contents .0);
         sum = eqb-true (sumRows es) (h .revisions) (contents .1);
         seqs = true-none 0 (badSeqs [] es) (sequence .0);
         largest = eqb-true (h .seq) (largest es) (sequence .1);
@@ -184,7 +136,7 @@ module _ (s : List ℕ) where
       let h : Head = headOf s in
       let es : List Entry = entriesOf s in
       holds-none (faults s) (
-        le-ltb (length s) 16 (m .long),
+        le-ltb (length s) headSize (m .long),
         (
           ap not (eq-eqb (h .edition) 1 (m .edition)),
           (
@@ -198,8 +150,8 @@ module _ (s : List ℕ) where
                 ),
             (
               none-at BadContents (badContents s)
-                  (none-else (firstTrue 0 (badEntries (16 + 44 * h .documents) none es)) (eqb (sumRows es) (h .revisions)) (h .documents)
-                  (none-true 0 (badEntries (16 + 44 * h .documents) none es) (m .entries)) (eq-eqb (sumRows es) (h .revisions) (m .sum))),
+                  (none-else (firstTrue 0 (badEntries (headSize + entrySize * h .documents) none es)) (eqb (sumRows es) (h .revisions)) (h .documents)
+                  (none-true 0 (badEntries (headSize + entrySize * h .documents) none es) (m .entries)) (eq-eqb (sumRows es) (h .revisions) (m .sum))),
               (
                 none-at BadSequence (badSequence s)
                     (none-else (firstTrue 0 (badSeqs [] es)) (eqb (h .seq) (largest es)) (h .documents)

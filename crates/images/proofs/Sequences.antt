@@ -11,7 +11,8 @@ use borrow.Author.Tests.{eqb-false, ne-eqb}
 use Rattle.rules.specs.declared.Order.the-variants.{Less}
 use Rattle.rules.specs.declared.Seq.{Seq}
 use Rattle.rules.specs.Choice.{any}
-use Rattle.rules.specs.Image.{Entry, badSeqs}
+use Rattle.rules.specs.Faults.{badSeqs}
+use Rattle.rules.specs.Layout.{Entry}
 use Rattle.rules.specs.Map.{Map, find, Ascending}
 use Rattle.rules.specs.Order.{orderBytes}
 use Rattle.rules.specs.Replica.{Id, Document}

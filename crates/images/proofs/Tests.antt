@@ -7,7 +7,7 @@ use native.Mathlib.Omega.{arith}
 use lib.Dec.{eqb}
 use lib.ListN.{length, replicate}
 use borrow.Author.Tests.{eqb-true}
-use Rattle.rules.specs.Image.{allZero}
+use Rattle.rules.specs.Bytes.{allZero}
 use Rattle.images.proofs.Lists.{Each}
 
 pub true≢false : true ≡ false → ⊥

@@ -11,10 +11,11 @@ use Rattle.rules.specs.declared.Loaded.{Loaded}
 use Rattle.rules.specs.declared.Loaded.the-variants.{Accepted, Refused}
 use Rattle.rules.specs.Bytes.{Bytes}
 use Rattle.rules.specs.Choice.{firstThat}
-use Rattle.rules.specs.Image.{image, faults, replicaIn, loadAs, load, totalLength}
+use Rattle.rules.specs.Faults.{faults, loadAs, load}
+use Rattle.rules.specs.Image.{image, replicaIn, totalLength}
 use Rattle.rules.specs.Replica.{Replica, revisionsHeld, IsReplica}
 use Rattle.rules.specs.Room.{documentsMost, revisionsMost}
-use Rattle.images.proofs.Rules.{NoneHolds, none-holds, holds-none, IsFirst, first-is, is-first}
+use Rattle.rules.proofs.ChoiceLaws.{NoneHolds, none-holds, holds-none, IsFirst, first-is, is-first}
 use Rattle.images.proofs.Replicas.{length-image, bytes-image, image-faultless, image-read, held-replica, held-image}
 
 -- ---- the rules and their order
@@ -96,6 +97,3 @@ image-most r i =
     let d = i .documents-most in
     let v = i .revisions-most in
     omega arith
-
-pub largest-image : totalLength documentsMost revisionsMost ≡ 26000
-largest-image = refl

@@ -13,7 +13,9 @@ use Rattle.rules.specs.declared.Order.{Order}
 use Rattle.rules.specs.declared.Order.the-variants.{Less, Equal, Greater}
 use Rattle.rules.specs.declared.Revision.{Revision}
 use Rattle.rules.specs.Choice.{pick, maybe, any}
-use Rattle.rules.specs.Image.{Row, nodeIn, badRow, rowNotAbove, badRows, parentOfRow, isParentOf, badLink, badLinks, kindOf}
+use Rattle.rules.specs.Faults.{badRow, rowNotAbove, badRows, isParentOf, badLink, badLinks}
+use Rattle.rules.specs.Image.{nodeIn, parentOfRow, kindOf}
+use Rattle.rules.specs.Layout.{Row}
 use Rattle.rules.specs.Map.{find, Below, Ascending}
 use Rattle.rules.specs.Order.{orderRev, isLess, isEqual, sameRev}
 use Rattle.rules.specs.Replica.{Node, Tree, Known, HasParent, HasContent, HasChild, IsTree}

@@ -14,11 +14,11 @@ pub bytes-append : (a b : List ℕ) → Bytes a → Bytes b → Bytes (a ++ b)
 bytes-append [] b p q = q
 bytes-append (x ∷ a) b p q = (p .0, bytes-append a b (p .1) q)
 
-pub bytes-left : (a b : List ℕ) → Bytes (a ++ b) → Bytes a
+bytes-left : (a b : List ℕ) → Bytes (a ++ b) → Bytes a
 bytes-left [] b p = tt
 bytes-left (x ∷ a) b p = (p .0, bytes-left a b (p .1))
 
-pub bytes-right : (a b : List ℕ) → Bytes (a ++ b) → Bytes b
+bytes-right : (a b : List ℕ) → Bytes (a ++ b) → Bytes b
 bytes-right [] b p = p
 bytes-right (x ∷ a) b p = bytes-right a b (p .1)
 
@@ -53,7 +53,7 @@ unfolding be
 bytes-be zero v = tt
 bytes-be (suc n) v = bytes-append (be n (v / 256)) (v % 256 ∷ []) (bytes-be n (v / 256)) (omega arith, tt)
 
-pub be-zero : (n : ℕ) → be n 0 ≡ replicate n 0
+be-zero : (n : ℕ) → be n 0 ≡ replicate n 0
 unfolding be
 be-zero zero = refl
 be-zero (suc n) = ap (λ (l : List ℕ). l ++ (0 ∷ [])) (be-zero n) ∙ snoc n
@@ -92,11 +92,11 @@ be-from n v (b ∷ bs) p =
     ∙ (ap (λ (l : List ℕ). l ++ bs) (be-step n v b (p .0)) ∙ append-assoc (be n v) (b ∷ []) bs))
 
 -- bytes are those of the number that they are
-pub be-value : (bs : List ℕ) → Bytes bs → be (length bs) (value bs) ≡ bs
+be-value : (bs : List ℕ) → Bytes bs → be (length bs) (value bs) ≡ bs
 unfolding value be
 be-value bs p = ap (λ (k : ℕ). be k (valueFrom 0 bs)) (sym (zero-add (length bs))) ∙ be-from 0 0 bs p
 
-pub be-value-of : (n : ℕ) (bs : List ℕ) → length bs ≡ n → Bytes bs → be n (value bs) ≡ bs
+be-value-of : (n : ℕ) (bs : List ℕ) → length bs ≡ n → Bytes bs → be n (value bs) ≡ bs
 be-value-of n bs e p = ap (λ (k : ℕ). be k (value bs)) (sym e) ∙ be-value bs p
 
 value-from-most : (v : ℕ) (bs : List ℕ) → Bytes bs → valueFrom v bs < (v + 1) * 256 ^ length bs
@@ -108,19 +108,12 @@ value-from-most v (b ∷ bs) p =
     rw (pow-suc 256 (length bs)) (omega arith)
 
 -- and n bytes are a number below 256 to the n
-pub value-most : (bs : List ℕ) → Bytes bs → value bs < 256 ^ length bs
+value-most : (bs : List ℕ) → Bytes bs → value bs < 256 ^ length bs
 unfolding value
 value-most bs p = let h = value-from-most 0 bs p in omega arith
 
 pub value-below : (n : ℕ) (bs : List ℕ) → length bs ≡ n → Bytes bs → value bs < 256 ^ n
 value-below n bs e p = rw e at (value-most bs p)
-
-pub value-zeros : (n : ℕ) → value (replicate n 0) ≡ 0
-value-zeros n = ap value (sym (be-zero n)) ∙ value-be n 0 (pow-pos n)
-  where
-    pow-pos : (k : ℕ) → 0 < 256 ^ k
-    pow-pos zero = omega arith
-    pow-pos (suc k) = let h = pow-pos k in omega arith
 
 -- ---- parts
 
@@ -234,7 +227,7 @@ join-pieces (suc n) w s =
     ap (λ (l : List ℕ). take w s ++ l) (join-pieces n w (drop w s))
     ∙ (sym (take-add w (n * w) s) ∙ ap (λ (j : ℕ). take j s) k)
 
-pub join-pieces-all : (n w : ℕ) (s : List ℕ) → length s ≡ n * w → join (pieces n w s) ≡ s
+join-pieces-all : (n w : ℕ) (s : List ℕ) → length s ≡ n * w → join (pieces n w s) ≡ s
 join-pieces-all n w s e = join-pieces n w s ∙ take-all (n * w) s (omega arith)
 
 -- the pieces of a run and of what follows it

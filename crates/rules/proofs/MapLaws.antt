@@ -34,20 +34,21 @@ module _ {K A : Type 0} (O : TotalOrder K) where
   find-same k f [] = rw (O .self k) refl
   find-same k f (x ∷ xs) = go (O .cmp k (x .0)) refl (find-same k f xs)
     where
-      go : (o : Order) → O .cmp k (x .0) ≡ o → find (O .cmp) k (alter (O .cmp) k f xs) ≡ some (f (find (O .cmp) k xs)) → find (O .cmp) k (alter (O .cmp) k f (x ∷ xs)) ≡ some (f (find (O .cmp) k (x ∷ xs)))
+      go : (o : Order) → O .cmp k (x .0) ≡ o → find (O .cmp) k (alter (O .cmp) k f xs) ≡ some (f (find (O .cmp) k xs))
+          → find (O .cmp) k (alter (O .cmp) k f (x ∷ xs)) ≡ some (f (find (O .cmp) k (x ∷ xs)))
       go Less e ih = rw (e, O .self k) refl
       go Equal e ih = rw (e, O .self k) refl
       go Greater e ih = rw (e, e) ih
 
-  pub alter-lt : (k : K) (f : Option A → A) (x : K × A) (xs : Map K A) → O .cmp k (x .0) ≡ Less → alter (O .cmp) k f (x ∷ xs) ≡ (k, f none) ∷ x ∷ xs
+  alter-lt : (k : K) (f : Option A → A) (x : K × A) (xs : Map K A) → O .cmp k (x .0) ≡ Less → alter (O .cmp) k f (x ∷ xs) ≡ (k, f none) ∷ x ∷ xs
   unfolding alter
   alter-lt k f x xs e = rw e refl
 
-  pub alter-eq : (k : K) (f : Option A → A) (x : K × A) (xs : Map K A) → O .cmp k (x .0) ≡ Equal → alter (O .cmp) k f (x ∷ xs) ≡ (k, f (some (x .1))) ∷ xs
+  alter-eq : (k : K) (f : Option A → A) (x : K × A) (xs : Map K A) → O .cmp k (x .0) ≡ Equal → alter (O .cmp) k f (x ∷ xs) ≡ (k, f (some (x .1))) ∷ xs
   unfolding alter
   alter-eq k f x xs e = rw e refl
 
-  pub alter-gt : (k : K) (f : Option A → A) (x : K × A) (xs : Map K A) → O .cmp k (x .0) ≡ Greater → alter (O .cmp) k f (x ∷ xs) ≡ x ∷ alter (O .cmp) k f xs
+  alter-gt : (k : K) (f : Option A → A) (x : K × A) (xs : Map K A) → O .cmp k (x .0) ≡ Greater → alter (O .cmp) k f (x ∷ xs) ≡ x ∷ alter (O .cmp) k f xs
   unfolding alter
   alter-gt k f x xs e = rw e refl
 

@@ -1,12 +1,13 @@
 -- The orders are total: a comparison with its laws, for numbers, bytes and revisions. Assumes nothing.
 use mathlib.Core.Path.{_≡_, refl, sym, ap, ap₂, _∙_, subst}
+use mathlib.Core.Bool.{true, true≢false}
 use mathlib.Core.List.{List, [], _∷_}
 use Prim.Native.Nat.{ℕ, zero, suc, _<_, compare·zero-zero, compare·zero-suc, compare·suc-zero, compare·suc-suc}
 use native.Mathlib.Omega.{arith}
 use Rattle.rules.specs.declared.Order.{Order}
 use Rattle.rules.specs.declared.Order.the-variants.{Less, Equal, Greater}
 use Rattle.rules.specs.declared.Revision.{Revision}
-use Rattle.rules.specs.Order.{fromOrdering, orderN, andThen, orderBytes, orderRev}
+use Rattle.rules.specs.Order.{fromOrdering, orderN, andThen, orderBytes, orderRev, isEqual, sameRev}
 
 pub less≢equal : Less ≡ Equal → ⊥
 less≢equal e = let z : _≡_ {A = ℕ} 0 1 = cc in omega arith
@@ -189,3 +190,21 @@ revOrder = record {
   trans = λ a b c p q. rev-as-bytes a c ∙ orderBytes-trans (a .number .0 ∷ a .hash) (b .number .0 ∷ b .hash) (c .number .0 ∷ c .hash) (sym (rev-as-bytes a b) ∙ p) (sym (rev-as-bytes b c) ∙ q);
   turn = λ a b e. rev-as-bytes b a ∙ orderBytes-turn (a .number .0 ∷ a .hash) (b .number .0 ∷ b .hash) (sym (rev-as-bytes a b) ∙ e);
 }
+
+-- ---- the test for the same revision
+
+is-equal : (o : Order) → isEqual o ≡ true → o ≡ Equal
+is-equal Less e = absurd (true≢false (sym e))
+is-equal Equal e = refl
+is-equal Greater e = absurd (true≢false (sym e))
+
+pub same-equal : {K : Type 0} (O : TotalOrder K) (a b : K) → a ≡ b → isEqual (O .cmp a b) ≡ true
+same-equal {K} O a b e = rw (subst (λ (z : K). O .cmp a z ≡ Equal) e (O .self a)) refl
+
+pub sameRev-true : (a b : Revision) → sameRev a b ≡ true → a ≡ b
+unfolding sameRev
+sameRev-true a b e = orderRev-same a b (is-equal (orderRev a b) e)
+
+pub true-sameRev : (a b : Revision) → a ≡ b → sameRev a b ≡ true
+unfolding sameRev
+true-sameRev a b e = same-equal revOrder a b e

@@ -10,4 +10,4 @@ fixed p q = p ∙ sym q
 
 pub does-one :
     {A : Type 0} {o : A × List ℕ} {x y : A} {s t : List ℕ} → Does o x s → Does o y t → (x ≡ y) × (s ≡ t)
-does-one p q = (fixed (p .answers) (q .answers), fixed (p .leaves) (q .leaves))
+does-one p q = (fixed (p .answers) (q .answers), fixed (p .left) (q .left))

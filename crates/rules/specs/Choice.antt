@@ -1,7 +1,8 @@
--- Choosing by a test, and the first condition that holds.
+-- Choosing and counting by a test, and the first condition that holds.
 use mathlib.Core.Bool.{Bool, true, false, _||_}
 use mathlib.Core.List.{List, [], _∷_}
 use mathlib.Core.Option.{Option, none, some}
+use Prim.Native.Nat.{ℕ, _+_}
 
 -- the first where the test holds, else the second
 abbrev pub pick : {A : Type 0} → Bool → A → A → A
@@ -20,6 +21,11 @@ maybe x f (some a) = f a
 unfoldable pub any : {A : Type 0} → (A → Bool) → List A → Bool
 any p [] = false
 any p (x ∷ xs) = p x || any p xs
+
+-- of how many the test holds
+unfoldable pub howMany : {A : Type 0} → (A → Bool) → List A → ℕ
+howMany p [] = 0
+howMany p (x ∷ xs) = pick (p x) 1 0 + howMany p xs
 
 -- "in that order": of conditions with what each gives, what the first that holds gives
 unfoldable pub firstThat : {A : Type 0} → List (Bool × A) → Option A

@@ -14,9 +14,9 @@ use Rattle.rules.specs.declared.RevNumber.{RevNumber}
 use Rattle.rules.specs.Choice.{pick, maybe, firstThat}
 use Rattle.rules.specs.Map.{find}
 use Rattle.rules.specs.Order.{orderRev}
-use Rattle.rules.specs.Read.{winner, isDeletion}
+use Rattle.rules.specs.Read.{winner, isLive, isDeletion}
 use Rattle.rules.specs.Replica.{Id, Hash, revision, Node, Tree, Replica, documentOf, treeOf}
-use Rattle.rules.specs.Room.{last}
+use Rattle.rules.specs.Room.{numberMost}
 use Rattle.rules.specs.Write.{Write, added, badId, isNone, roomRefusals, settle}
 
 -- "An edit gives an id, a new hash, a content and optionally a parent revision."
@@ -49,7 +49,7 @@ parentOf r e = maybe (deletedWinner (treeOf r (e .id))) some (e .parent)
 unfoldable pub parentRule : Replica → Edit → Bool
 parentRule r e =
     maybe
-    (not (isDeletion (e .content)) && (isNone (documentOf r (e .id)) || not (isNone (deletedWinner (treeOf r (e .id))))))
+    (isLive (e .content) && (isNone (documentOf r (e .id)) || not (isNone (deletedWinner (treeOf r (e .id))))))
     (isLeaf (treeOf r (e .id)))
     (e .parent)
 
@@ -76,7 +76,7 @@ alreadyKnown r e = not (isNone (find orderRev (revision (newNumber r e .0) (e .h
 
 -- 11: "the parent's number is 4,294,967,295"
 unfoldable pub lastNumber : Replica → Edit → Bool
-lastNumber r e = maybe false (λ p. eqb (p .number .0) last) (parentOf r e)
+lastNumber r e = maybe false (λ p. eqb (p .number .0) numberMost) (parentOf r e)
 
 -- "An edit checks 1, 9, 11, 10, 6, 7, 8."
 unfoldable pub editRefusals : Replica → Edit → List (Bool × Refusal)

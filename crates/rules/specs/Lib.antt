@@ -11,7 +11,9 @@ pub mod Write
 pub mod Read
 pub mod Edit
 pub mod Pull
+pub mod Layout
 pub mod Image
+pub mod Faults
 pub mod Report
 pub mod Union
 pub mod Examples

@@ -1,8 +1,8 @@
 -- "Reading": winner, leaves, conflicts, path, missing, changes.
-use mathlib.Core.Bool.{Bool, true, false, not, _&&_}
+use mathlib.Core.Bool.{Bool, true, false, not}
 use mathlib.Core.List.{List, [], _∷_, _++_, map}
 use mathlib.Core.Option.{Option, none, some}
-use Prim.Native.Nat.{ℕ, zero, suc, _+_, _/_, _%_}
+use Prim.Native.Nat.{ℕ, zero, suc, _/_, _%_}
 use lib.Dec.{eqb, leb, ltb}
 use lib.ListN.{length, take, drop}
 use Rattle.rules.specs.declared.Answered.{Answered}
@@ -23,7 +23,7 @@ use Rattle.rules.specs.Choice.{pick, maybe, firstThat}
 use Rattle.rules.specs.Map.{Map, find}
 use Rattle.rules.specs.Order.{orderN, orderRev, andThen, isLess, sameRev}
 use Rattle.rules.specs.Replica.{Id, Hash, revision, Node, Tree, Document, Replica, documentOf, treeOf, revisionsHeld}
-use Rattle.rules.specs.Write.{badId, isNone}
+use Rattle.rules.specs.Write.{badId, isNone, parentIn}
 
 -- ---- leaves
 
@@ -41,6 +41,14 @@ leaves [] = []
 leaves (v ∷ t) = leaves t ++ leafIn v
 
 -- ---- winner and conflicts
+
+abbrev pub isLive : Content → Bool
+isLive (Live n) = true
+isLive Deleted = false
+
+abbrev pub isDeletion : Content → Bool
+isDeletion (Live n) = false
+isDeletion Deleted = true
 
 -- "among live leaves ..; with no live leaf, the same among deleted ones"
 abbrev pub rank : Content → ℕ
@@ -89,10 +97,6 @@ leafBytes a =
 
 -- ---- path
 
-abbrev pub parentIn : Option Node → Option Revision
-parentIn none = none
-parentIn (some n) = n .parent
-
 -- "the revision itself, followed by the path of its parent, as far as parents are known": of a
 -- revision that is numbered n at most, since each parent's number is one lower
 unfoldable pub ancestry : ℕ → Tree → Revision → List Hash
@@ -120,10 +124,6 @@ missing t asked = map (missingByte t) (pieces (length asked / askedSize) askedSi
 
 -- ---- documents after a sequence
 
--- the documents that changes and pull range over: all of them
-abbrev pub replicates : Id → Bool
-replicates i = true
-
 unfoldable pub insertBySeq : Id × Document → List (Id × Document) → List (Id × Document)
 insertBySeq d [] = d ∷ []
 insertBySeq d (e ∷ es) = pick (leb (d .1 .seq .0) (e .1 .seq .0)) (d ∷ e ∷ es) (e ∷ insertBySeq d es)
@@ -132,7 +132,7 @@ insertBySeq d (e ∷ es) = pick (leb (d .1 .seq .0) (e .1 .seq .0)) (d ∷ e ∷
 unfoldable pub documentsAfter : Seq → Map Id Document → List (Id × Document)
 documentsAfter s [] = []
 documentsAfter s (d ∷ ds) =
-    pick (replicates (d .0) && ltb (s .0) (d .1 .seq .0)) (insertBySeq d (documentsAfter s ds)) (documentsAfter s ds)
+    pick (ltb (s .0) (d .1 .seq .0)) (insertBySeq d (documentsAfter s ds)) (documentsAfter s ds)
 
 -- ---- the calls: an answer, and the lent buffer as it is left
 
@@ -175,10 +175,6 @@ unfoldable pub readMissing : Replica → Id → List ℕ → List ℕ → Answer
 readMissing r i asked out =
     let bytes = missing (treeOf r i) asked in
     reads ((badId i, BadId) ∷ (not (eqb (length asked % askedSize) 0), BadAsked) ∷ []) (length bytes) bytes out
-
-abbrev pub isDeletion : Content → Bool
-isDeletion (Live n) = false
-isDeletion Deleted = true
 
 -- "its id length, that sequence, its leaf count and whether its winner is a deletion"
 unfoldable pub changeOf : Id × Document → Change

@@ -12,7 +12,7 @@ use Rattle.rules.specs.declared.Seq.{Seq}
 use Rattle.rules.specs.Bytes.{Bytes}
 use Rattle.rules.specs.Map.{Map, find, Ascending}
 use Rattle.rules.specs.Order.{orderBytes, orderRev}
-use Rattle.rules.specs.Room.{documentsMost, revisionsMost, idMost, hashSize, last, labels}
+use Rattle.rules.specs.Room.{documentsMost, revisionsMost, idMost, hashSize, numberMost, seqMost, labels}
 
 abbrev pub Id : Type 0
 Id = List ℕ
@@ -98,7 +98,7 @@ pub record IsRevision (v : Revision) : Type 0 where
   pub bytes : Bytes (v .hash)
   pub size : length (v .hash) ≡ hashSize
   pub least : 1 ≤ v .number .0
-  pub most : v .number .0 ≤ last
+  pub most : v .number .0 ≤ numberMost
 
 -- "a live body with its 64-bit label, or a deletion, which has no label"
 abbrev pub IsContent : Content → Type 0
@@ -130,4 +130,4 @@ pub record IsReplica (r : Replica) : Type 0 where
   pub documents-most : length (r .documents) ≤ documentsMost
   pub revisions-most : revisionsHeld (r .documents) ≤ revisionsMost
   pub seq-largest : r .seq .0 ≡ largestSeq (r .documents)
-  pub seq-most : r .seq .0 ≤ last
+  pub seq-most : r .seq .0 ≤ seqMost

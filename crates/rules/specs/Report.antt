@@ -11,7 +11,8 @@ use Rattle.rules.specs.declared.Revision.{Revision}
 use Rattle.rules.specs.declared.Seq.{Seq}
 use Rattle.rules.specs.Bytes.{join}
 use Rattle.rules.specs.Choice.{pick, maybe, firstThat}
-use Rattle.rules.specs.Image.{faults, replicaIn, totalLength}
+use Rattle.rules.specs.Faults.{faults}
+use Rattle.rules.specs.Image.{replicaIn, totalLength}
 use Rattle.rules.specs.Room.{documentsMost, revisionsMost}
 use Rattle.rules.specs.Read.{leaves, winner, conflicts, reads}
 use Rattle.rules.specs.Refusal.{faultNumber}
@@ -47,6 +48,41 @@ unfoldable pub text : String → List ℕ
 text String.[] = []
 text (String._∷_ c s) = code c ∷ text s
 
+-- ---- the words of the lines
+
+abbrev pub seqWord : String
+seqWord = "seq "
+
+abbrev pub documentsWord : String
+documentsWord = " documents "
+
+abbrev pub revisionsWord : String
+revisionsWord = " revisions "
+
+abbrev pub ownWord : String
+ownWord = " seq "
+
+abbrev pub winnerWord : String
+winnerWord = " winner "
+
+abbrev pub dash : String
+dash = "-"
+
+abbrev pub leavesWord : String
+leavesWord = " leaves "
+
+abbrev pub conflictsWord : String
+conflictsWord = " conflicts "
+
+abbrev pub refusedWord : String
+refusedWord = "refused "
+
+abbrev pub atWord : String
+atWord = " at "
+
+abbrev pub newline : String
+newline = "\n"
+
 -- ---- the lines
 
 -- what a document's line says
@@ -69,27 +105,27 @@ lineOf d = record {
 
 -- "winner as number and hash"
 unfoldable pub revText : Revision → List ℕ
-revText v = decimal (v .number .0) ++ (text "-" ++ hex (v .hash))
+revText v = decimal (v .number .0) ++ (text dash ++ hex (v .hash))
 
 -- "id in hex, own sequence, winner as number and hash, leaf count, conflict count"
 unfoldable pub lineText : Line → List ℕ
 lineText l =
     hex (l .id)
-    ++ (text " seq "
+    ++ (text ownWord
     ++ (decimal (l .seq .0)
-    ++ (text " winner "
+    ++ (text winnerWord
     ++ (revText (l .winner)
-    ++ (text " leaves "
-    ++ (decimal (l .leaves) ++ (text " conflicts " ++ (decimal (l .conflicts) ++ text "\n"))))))))
+    ++ (text leavesWord
+    ++ (decimal (l .leaves) ++ (text conflictsWord ++ (decimal (l .conflicts) ++ text newline))))))))
 
 -- "a head line (update sequence, documents, revisions)"
 unfoldable pub headText : Replica → List ℕ
 headText r =
-    text "seq "
+    text seqWord
     ++ (decimal (r .seq .0)
-    ++ (text " documents "
+    ++ (text documentsWord
     ++ (decimal (length (r .documents))
-    ++ (text " revisions " ++ (decimal (revisionsHeld (r .documents)) ++ text "\n")))))
+    ++ (text revisionsWord ++ (decimal (revisionsHeld (r .documents)) ++ text newline)))))
 
 -- "and one line per document in image order"
 unfoldable pub replicaText : Replica → List ℕ
@@ -98,7 +134,7 @@ replicaText r = headText r ++ join (map (λ d. lineText (lineOf d)) (r .document
 -- "A refused image prints `refused N at P`."
 unfoldable pub refusedText : Fault × ℕ → List ℕ
 refusedText f =
-    text "refused " ++ (decimal (faultNumber (f .0)) ++ (text " at " ++ (decimal (f .1) ++ text "\n")))
+    text refusedWord ++ (decimal (faultNumber (f .0)) ++ (text atWord ++ (decimal (f .1) ++ text newline)))
 
 unfoldable pub report : List ℕ → List ℕ
 report s = maybe (replicaText (replicaIn s)) refusedText (firstThat (faults s))

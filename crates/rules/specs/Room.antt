@@ -19,9 +19,13 @@ idMost = 32
 abbrev pub hashSize : ℕ
 hashSize = 16
 
--- "Numbers run from 1 to 4,294,967,295"; "an update sequence, 0 when fresh, at most 4,294,967,295"
-abbrev pub last : ℕ
-last = 4294967295
+-- "Numbers run from 1 to 4,294,967,295"
+abbrev pub numberMost : ℕ
+numberMost = 4294967295
+
+-- "an update sequence, 0 when fresh, at most 4,294,967,295"
+abbrev pub seqMost : ℕ
+seqMost = 4294967295
 
 -- "its 64-bit label"
 abbrev pub labels : ℕ

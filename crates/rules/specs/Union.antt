@@ -1,4 +1,5 @@
 -- Demand 3: the union "stated from what is given or held, never by running writes or pulls".
+use mathlib.Core.Bool.{true}
 use mathlib.Core.Path.{_≡_}
 use mathlib.Core.List.{List, [], _∷_}
 use mathlib.Core.Logic.{_↔_, _⊎_}
@@ -17,8 +18,8 @@ use Rattle.rules.specs.Choice.{firstThat}
 use Rattle.rules.specs.Map.{Map}
 use Rattle.rules.specs.Read.{LeafOf, orderLeaf, winner}
 use Rattle.rules.specs.Replica.{Id, Node, Tree, Document, Replica, documentOf, treeOf, Known, HasParent, HasContent, Leaf, IsContent}
-use Rattle.rules.specs.Room.{documentsMost, revisionsMost, last}
-use Rattle.rules.specs.Write.{Write, gives, formRefusals, write}
+use Rattle.rules.specs.Room.{documentsMost, revisionsMost, numberMost}
+use Rattle.rules.specs.Write.{Write, gives, agree, formRefusals, write}
 
 abbrev pub In : {A : Type 0} → A → List A → Type 0
 In x [] = ⊥
@@ -96,7 +97,7 @@ SameButSeq r s = trees (r .documents) ≡ trees (s .documents)
 -- what a call can be given: a number, bytes and a label in their ranges
 pub record IsWrite (w : Write) : Type 0 where
   pub id : Bytes (w .id)
-  pub number : w .number .0 ≤ last
+  pub number : w .number .0 ≤ numberMost
   pub path : Bytes (w .path)
   pub content : IsContent (w .content)
 
@@ -109,7 +110,7 @@ pub record WellFormed (w : Write) : Type 0 where
 -- revision two different contents"
 pub record Compatible (g : Things) : Type 0 where
   pub parents : (i : Id) (v p q : Revision) → g .parent i v p → g .parent i v q → p ≡ q
-  pub contents : (i : Id) (v : Revision) (c d : Content) → g .content i v c → g .content i v d → c ≡ d
+  pub contents : (i : Id) (v : Revision) (c d : Content) → g .content i v c → g .content i v d → agree c d ≡ true
 
 -- "and which fit the limits together"
 pub record Fits (g : Things) : Type 0 where

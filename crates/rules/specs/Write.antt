@@ -16,11 +16,11 @@ use Rattle.rules.specs.declared.Seq.{Seq}
 use Rattle.rules.specs.declared.Written.{Written}
 use Rattle.rules.specs.declared.Written.the-variants.{Accepted, Refused}
 use Rattle.rules.specs.Bytes.{pieces}
-use Rattle.rules.specs.Choice.{pick, orElse, maybe, any, firstThat}
+use Rattle.rules.specs.Choice.{pick, orElse, maybe, any, howMany, firstThat}
 use Rattle.rules.specs.Map.{find, alter}
 use Rattle.rules.specs.Order.{orderBytes, orderRev, sameRev}
 use Rattle.rules.specs.Replica.{Id, Hash, revision, Node, Tree, Replica, documentOf, treeOf, revisionsHeld}
-use Rattle.rules.specs.Room.{documentsMost, revisionsMost, hashesMost, idMost, hashSize, last}
+use Rattle.rules.specs.Room.{documentsMost, revisionsMost, hashesMost, idMost, hashSize, seqMost}
 
 -- "A path write gives an id, a number, one or more hashes newest first, and the content of the
 -- newest." The hashes come as bytes.
@@ -93,16 +93,28 @@ abbrev pub lacksParent : Option Revision → Option Revision → Bool
 lacksParent none held = false
 lacksParent (some p) held = isNone held
 
+abbrev pub parentIn : Option Node → Option Revision
+parentIn none = none
+parentIn (some n) = n .parent
+
+-- also where the revision itself is new
+unfoldable pub isNewParent : Tree → Revision × Node → Bool
+isNewParent t g = lacksParent (g .1 .parent) (parentIn (find orderRev (g .0) t))
+
+-- a new revision, or one that gains its parent
 unfoldable pub isAddition : Tree → Revision × Node → Bool
 isAddition t g = maybe true (λ n. lacksParent (g .1 .parent) (n .parent)) (find orderRev (g .0) t)
 
--- "Where nothing was added the answer is unchanged"
-unfoldable pub adds : Replica → Write → Bool
-adds r w = any (isAddition (treeOf r (w .id))) (gives w)
-
+-- "the revisions and parents that the path gives and the replica lacks": how many of each
 unfoldable pub countNew : Tree → List (Revision × Node) → ℕ
-countNew t [] = 0
-countNew t (g ∷ gs) = pick (isNew t g) 1 0 + countNew t gs
+countNew t gs = howMany (isNew t) gs
+
+unfoldable pub countParents : Tree → List (Revision × Node) → ℕ
+countParents t gs = howMany (isNewParent t) gs
+
+-- "Where nothing was added the answer is unchanged": something is where either is above 0
+unfoldable pub adds : Replica → Write → Bool
+adds r w = ltb 0 (countNew (treeOf r (w .id)) (gives w)) || ltb 0 (countParents (treeOf r (w .id)) (gives w))
 
 -- ---- the refusals
 
@@ -151,7 +163,7 @@ revisionsFull r w = ltb revisionsMost (revisionsHeld (r .documents) + countNew (
 
 -- 8: "something would be added and the sequence is 4,294,967,295"
 unfoldable pub sequenceSpent : Replica → Write → Bool
-sequenceSpent r w = adds r w && eqb (r .seq .0) last
+sequenceSpent r w = adds r w && eqb (r .seq .0) seqMost
 
 -- "A write is well-formed if 1 to 3 below don't refuse it."
 abbrev pub formRefusals : Write → List (Bool × Refusal)

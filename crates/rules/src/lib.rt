@@ -9,24 +9,10 @@ pub const REVISIONS: usize = 512;
 
 pub const PATH_HASHES: usize = 512;
 
-// The parts of an image and of a replica's buffer: the head, a document's entry, a revision's row.
-pub const HEAD: usize = 16;
+// The bytes of a hash, and of an id at most.
+pub const HASH: usize = 16;
 
-pub const ENTRY: usize = 44;
-
-pub const ROW: usize = 48;
-
-// Where the head has its counts and the update sequence.
-pub const DOCUMENTS_AT: usize = 2;
-
-pub const REVISIONS_AT: usize = 4;
-
-pub const SEQUENCE_AT: usize = 8;
-
-// Where an entry has its count of rows and its document's sequence.
-pub const COUNT_IN: usize = 34;
-
-pub const OWN_IN: usize = 36;
+pub const ID_MOST: usize = 32;
 
 // A revision's number, from 1 on. It never serves as a sequence.
 pub struct RevNumber(pub u32);
@@ -34,8 +20,11 @@ pub struct RevNumber(pub u32);
 // An update sequence, 0 when fresh. It never serves as a revision's number.
 pub struct Seq(pub u32);
 
-// The largest revision number and the largest update sequence.
-pub const LAST: u32 = 4294967295;
+// The largest revision number.
+pub const NUMBER_MOST: u32 = 4294967295;
+
+// The largest update sequence.
+pub const SEQ_MOST: u32 = 4294967295;
 
 pub struct Revision {
     pub number: RevNumber,
