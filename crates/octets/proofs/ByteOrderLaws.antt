@@ -11,10 +11,11 @@ use borrow.Author.Tests.{eq-eqb, ne-eqb}
 use Rattle.rules.specs.declared.Order.{Order}
 use Rattle.rules.specs.declared.Order.the-variants.{Less, Equal, Greater}
 use Rattle.rules.specs.Order.{orderN, andThen, orderBytes, isEqual}
-use Rattle.rules.specs.Bytes.{value, valueFrom, part, Bytes}
-use Rattle.rules.specs.Image.{allZero}
+use Rattle.rules.specs.Bytes.{value, valueFrom, part, Bytes, allZero}
+use Rattle.rules.specs.Room.{hashSize}
 use Rattle.rules.proofs.ByteLaws.{length-part}
 use Rattle.rules.proofs.OrderLaws.{orderN-same, orderN-self, orderN-less, less-orderN, orderN-turn, orderBytes-same}
+use Rattle.octets.specs.Octets.{IsNumber}
 
 pub greater-orderN : (a b : ℕ) → b < a → orderN a b ≡ Greater
 greater-orderN a b h = go (orderN a b) refl
@@ -117,6 +118,21 @@ order-halves a b p q k h i x y =
     let lb = length-part q k b (omega arith) in
     let e : length (part p k a) ≡ length (part q k b) = omega arith in
     rw (halves a p k, halves b q k, order-append (part p k a) (part q k b) (part (p + k) k a) (part (q + k) k b) e, order-value (part p k a) (part q k b) e x y)
+
+-- hashes, whose first halves are the numbers x and y
+module _ (a b : List ℕ) (p q : ℕ) (h : p + hashSize ≤ length a) (i : q + hashSize ≤ length b) {limit x y : ℕ} (X : IsNumber 8 limit a p x) (Y : IsNumber 8 limit b q y) where
+  abbrev hashes : Order
+  hashes = orderBytes (part p hashSize a) (part q hashSize b)
+
+  pub by-first : (o : Order) → orderN x y ≡ o → hashes ≡ andThen o (orderBytes (part (p + 8) 8 a) (part (q + 8) 8 b))
+  by-first o e = order-halves a b p q 8 (omega arith) (omega arith) (X .bytes) (Y .bytes) ∙ rw (sym (X .is), sym (Y .is), e)
+
+  pub by-second : {u v : ℕ} → x ≡ y → IsNumber 8 limit a (p + 8) u → IsNumber 8 limit b (q + 8) v → hashes ≡ orderN u v
+  by-second e k l =
+      let m = length-part (p + 8) 8 a (omega arith) in
+      let n = length-part (q + 8) 8 b (omega arith) in
+      let o = order-value (part (p + 8) 8 a) (part (q + 8) 8 b) (m ∙ sym n) (k .bytes) (l .bytes) in
+      by-first Equal (equal-orderN x y e) ∙ rw (k .is, l .is) (sym o)
 
 -- ---- sameness
 

@@ -95,7 +95,7 @@ add-two n = omega arith
 add-three : (n : ℕ) → n + 3 ≡ suc (suc (suc n))
 add-three n = omega arith
 
-pub four-at : (s : List ℕ) (at a b c d : ℕ) → at + 4 ≤ length s → set (set (set (set s at a) (at + 1) b) (at + 2) c) (at + 3) d ≡ splice s at (a ∷ b ∷ c ∷ d ∷ [])
+four-at : (s : List ℕ) (at a b c d : ℕ) → at + 4 ≤ length s → set (set (set (set s at a) (at + 1) b) (at + 2) c) (at + 3) d ≡ splice s at (a ∷ b ∷ c ∷ d ∷ [])
 four-at s at a b c d h = rw (add-one, add-two, add-three) (stores (a ∷ b ∷ c ∷ d ∷ []) s at h)
 
 pub four-stores : (s : List ℕ) (at v : ℕ) → at + 4 ≤ length s → v < 4294967296

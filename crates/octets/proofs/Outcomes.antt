@@ -1,7 +1,9 @@
 -- Each public function has one outcome. Assumes nothing.
 use mathlib.Core.Path.{refl}
-use Rattle.rules.specs.Outcome.{OneOutcome}
+use Rattle.rules.specs.Outcome.{OneOutcome, nothing}
 use Rattle.rules.proofs.OutcomeLaws.{fixed}
+use Rattle.octets.proofs.number.lesser.Kinds as lesser
+use Rattle.octets.proofs.number.lesser.Reads as lesser'
 use Rattle.octets.proofs.number.get2.Kinds as get2
 use Rattle.octets.proofs.number.get2.Reads as get2'
 use Rattle.octets.proofs.number.get4.Kinds as get4
@@ -33,13 +35,16 @@ use Rattle.octets.proofs.run.get_hash.Reads as get-hash'
 use Rattle.octets.proofs.run.put_hash.Kinds as put-hash
 use Rattle.octets.proofs.run.put_hash.Reads as put-hash'
 
-pub get2-outcome : OneOutcome _ get2.ps get2.r get2'.Asked get2'.Learnt (λ κs s. tt {0})
+pub lesser-outcome : OneOutcome _ lesser.ps lesser.r lesser'.Asked lesser'.Learnt nothing
+lesser-outcome κs a x y s t h p q = (fixed p q, refl)
+
+pub get2-outcome : OneOutcome _ get2.ps get2.r get2'.Asked get2'.Learnt nothing
 get2-outcome κs a x y s t h p q = (fixed (p .is) (q .is), refl)
 
-pub get4-outcome : OneOutcome _ get4.ps get4.r get4'.Asked get4'.Learnt (λ κs s. tt {0})
+pub get4-outcome : OneOutcome _ get4.ps get4.r get4'.Asked get4'.Learnt nothing
 get4-outcome κs a x y s t h p q = (fixed (p .is) (q .is), refl)
 
-pub get8-outcome : OneOutcome _ get8.ps get8.r get8'.Asked get8'.Learnt (λ κs s. tt {0})
+pub get8-outcome : OneOutcome _ get8.ps get8.r get8'.Asked get8'.Learnt nothing
 get8-outcome κs a x y s t h p q = (fixed (p .is) (q .is), refl)
 
 pub put2-outcome : OneOutcome _ put2.ps put2.r put2'.Asked put2'.Learnt (λ κs s. s .0 .now)
@@ -51,16 +56,16 @@ put4-outcome κs a x y s t h p q = (refl, fixed (p .is) (q .is))
 pub put8-outcome : OneOutcome _ put8.ps put8.r put8'.Asked put8'.Learnt (λ κs s. s .0 .now)
 put8-outcome κs a x y s t h p q = (refl, fixed (p .is) (q .is))
 
-pub order-bytes-outcome : OneOutcome _ order-bytes.ps order-bytes.r order-bytes'.Asked order-bytes'.Learnt (λ κs s. tt {0})
+pub order-bytes-outcome : OneOutcome _ order-bytes.ps order-bytes.r order-bytes'.Asked order-bytes'.Learnt nothing
 order-bytes-outcome κs a x y s t h p q = (fixed p q, refl)
 
-pub order-hash-at-outcome : OneOutcome _ order-hash-at.ps order-hash-at.r order-hash-at'.Asked order-hash-at'.Learnt (λ κs s. tt {0})
+pub order-hash-at-outcome : OneOutcome _ order-hash-at.ps order-hash-at.r order-hash-at'.Asked order-hash-at'.Learnt nothing
 order-hash-at-outcome κs a x y s t h p q = (fixed p q, refl)
 
-pub same-bytes-outcome : OneOutcome _ same-bytes.ps same-bytes.r same-bytes'.Asked same-bytes'.Learnt (λ κs s. tt {0})
+pub same-bytes-outcome : OneOutcome _ same-bytes.ps same-bytes.r same-bytes'.Asked same-bytes'.Learnt nothing
 same-bytes-outcome κs a x y s t h p q = (fixed p q, refl)
 
-pub all-zero-outcome : OneOutcome _ all-zero.ps all-zero.r all-zero'.Asked all-zero'.Learnt (λ κs s. tt {0})
+pub all-zero-outcome : OneOutcome _ all-zero.ps all-zero.r all-zero'.Asked all-zero'.Learnt nothing
 all-zero-outcome κs a x y s t h p q = (fixed p q, refl)
 
 pub copy-in-outcome : OneOutcome _ copy-in.ps copy-in.r copy-in'.Asked copy-in'.Learnt (λ κs s. s .0 .now)
@@ -72,7 +77,7 @@ clear-outcome κs a x y s t h p q = (refl, fixed p q)
 pub move-up-outcome : OneOutcome _ move-up.ps move-up.r move-up'.Asked move-up'.Learnt (λ κs s. s .0 .now)
 move-up-outcome κs a x y s t h p q = (refl, fixed p q)
 
-pub get-hash-outcome : OneOutcome _ get-hash.ps get-hash.r get-hash'.Asked get-hash'.Learnt (λ κs s. tt {0})
+pub get-hash-outcome : OneOutcome _ get-hash.ps get-hash.r get-hash'.Asked get-hash'.Learnt nothing
 get-hash-outcome κs a x y s t h p q = (fixed (p .is) (q .is), refl)
 
 pub put-hash-outcome : OneOutcome _ put-hash.ps put-hash.r put-hash'.Asked put-hash'.Learnt (λ κs s. s .0 .now)

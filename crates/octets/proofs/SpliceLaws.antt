@@ -6,8 +6,7 @@ use native.Mathlib.Nat.{add-assoc, zero-add, add-zero, sub-zero}
 use native.Mathlib.Numerals.{add-one}
 use native.Mathlib.Omega.{arith}
 use lib.ListN.{length, getD, set, take, drop, replicate, length-append, length-take, length-drop, length-replicate, List·getD-append, take-append-drop, replicate-append-replicate}
-use lib.Seq.{take-suc, drop-cons, set-at, take-take, sets, sets-eq, paste, drop-length, take-at, drop-at, drop-drop, drop-append-le, take-append-le, getD-take, take-append-add, drop-append-add}
-use borrow.Rule.Slice.PartMut.{putMid}
+use lib.Seq.{take-suc, drop-cons, set-at, sets, sets-eq, paste, drop-length, take-at, drop-at, drop-drop, drop-append-le, take-append-le, getD-take, take-append-add, drop-append-add}
 use Rattle.rules.specs.Bytes.{part}
 use Rattle.octets.specs.Splice.{splice}
 
@@ -80,44 +79,10 @@ splice-in a b vs q h =
 
 -- ---- what is read from a splice
 
--- before it
-pub take-splice : (s : List ℕ) (at : ℕ) (vs : List ℕ) (n : ℕ) → n ≤ at → at ≤ length s → take n (splice s at vs) ≡ take n s
-unfolding splice
-take-splice s at vs n h k =
-    rw (take-append-le n (take at s) (vs ++ drop (at + length vs) s) (simp length-take (omega arith)), take-take n at s h)
-
--- after it
-pub drop-splice : (s : List ℕ) (at : ℕ) (vs : List ℕ) (n : ℕ) → at + length vs ≤ n → at + length vs ≤ length s → drop n (splice s at vs) ≡ drop n s
-unfolding splice
-drop-splice s at vs n h k =
-    let m : length (take at s ++ vs) ≡ at + length vs = simp (length-append, length-take) (omega arith) in
-    let e : at + length vs + (n - (at + length vs)) ≡ n = omega arith in
-    let d : drop (at + length vs + (n - (at + length vs))) (take at s ++ vs ++ drop (at + length vs) s) ≡ drop (at + length vs + (n - (at + length vs))) s
-    = sym (drop-drop (n - (at + length vs)) (at + length vs) (take at s ++ vs ++ drop (at + length vs) s)) ∙ rw (drop-at (take at s ++ vs) (drop (at + length vs) s) (at + length vs) m) (drop-drop (n - (at + length vs)) (at + length vs) s) in
-    rw (sym (append-assoc (take at s) vs (drop (at + length vs) s))) (rw e at d)
-
--- from its start on, and from before its start
+-- from its start on
 pub drop-splice-at : (s : List ℕ) (at : ℕ) (vs : List ℕ) → at ≤ length s → drop at (splice s at vs) ≡ vs ++ drop (at + length vs) s
 unfolding splice
 drop-splice-at s at vs h = drop-at (take at s) (vs ++ drop (at + length vs) s) at (simp length-take (omega arith))
-
-pub drop-splice-before : (s : List ℕ) (n q : ℕ) (vs : List ℕ) → n + q ≤ length s → drop n (splice s (n + q) vs) ≡ splice (drop n s) q vs
-drop-splice-before s n q vs h =
-    let m : length (take n s) ≡ n = simp length-take (omega arith) in
-    let e : splice s (n + q) vs ≡ take n s ++ splice (drop n s) q vs = rw (sym (splice-past (take n s) (drop n s) vs n q m), take-append-drop n s) in
-    rw e (drop-at (take n s) (splice (drop n s) q vs) n m)
-
-pub part-splice-before : (s : List ℕ) (at : ℕ) (vs : List ℕ) (p n : ℕ) → p + n ≤ at → at + length vs ≤ length s → part p n (splice s at vs) ≡ part p n s
-unfolding part
-part-splice-before s at vs p n h k =
-    let e : at ≡ p + (at - p) = omega arith in
-    let d : drop p (splice s (p + (at - p)) vs) ≡ splice (drop p s) (at - p) vs = drop-splice-before s p (at - p) vs (omega arith) in
-    let f : splice s at vs ≡ splice s (p + (at - p)) vs = ap (λ (x : ℕ). splice s x vs) e in
-    rw (f, d) (take-splice (drop p s) (at - p) vs n (omega arith) (simp length-drop (omega arith)))
-
-pub part-splice-after : (s : List ℕ) (at : ℕ) (vs : List ℕ) (p n : ℕ) → at + length vs ≤ p → at + length vs ≤ length s → part p n (splice s at vs) ≡ part p n s
-unfolding part
-part-splice-after s at vs p n h k = rw (drop-splice s at vs p h k)
 
 pub part-splice-at : (s : List ℕ) (at : ℕ) (vs : List ℕ) (n : ℕ) → at ≤ length s → n ≡ length vs → part at n (splice s at vs) ≡ vs
 unfolding part
@@ -143,13 +108,6 @@ copied s at src i e = rw (e, whole src) (append-assoc (take at s) src (drop (at 
     whole : (l : List ℕ) → take (length l) l ≡ l
     whole [] = refl
     whole (x ∷ l) = ap (λ (r : List ℕ). x ∷ r) (whole l)
-
--- a part that was lent and came back as vs
-pub put-mid : (a e : ℕ) (s vs : List ℕ) → a + length vs ≡ e → putMid a (e - a) s vs ≡ splice s a vs
-unfolding splice
-put-mid a e s vs h =
-    let k : e - a ≡ length vs = omega arith in
-    rw (k, drop-drop (length vs) a s)
 
 -- one more behind a run
 pub splice-behind : (s : List ℕ) (at q v : ℕ) (vs : List ℕ) → q ≡ at + length vs → q < length s → set (splice s at vs) q v ≡ splice s at (vs ++ (v ∷ []))

@@ -4,6 +4,7 @@ use mathlib.Core.List.{List}
 use Prim.Native.Nat.{ℕ, _<_}
 use lib.ListN.{length}
 use Rattle.rules.specs.Bytes.{be, value, part, Bytes}
+use Rattle.rules.specs.Room.{hashSize}
 use Rattle.octets.specs.Splice.{splice}
 
 -- r is the number of k bytes at `at`, and below `limit`; and they are bytes
@@ -19,10 +20,10 @@ pub record NumberPut (k limit : ℕ) (before : List ℕ) (at v : ℕ) (after : L
 
 -- h is the sixteen bytes at `at`
 pub record IsHash (s : List ℕ) (at : ℕ) (h : List ℕ) : Type 0 where
-  pub is : h ≡ part at 16 s
-  pub size : length h ≡ 16
+  pub is : h ≡ part at hashSize s
+  pub size : length h ≡ hashSize
 
 -- the sixteen bytes h now stand at `at`
 pub record HashPut (before : List ℕ) (at : ℕ) (h after : List ℕ) : Type 0 where
   pub is : after ≡ splice before at h
-  pub size : length h ≡ 16
+  pub size : length h ≡ hashSize

@@ -1,12 +1,13 @@
 // Runs of bytes compared.
 use crate::number::get8;
+use rules::HASH;
 use rules::Order;
 ghost use mathlib.Core.Path.{_≡_};
 ghost use Prim.Native.Nat.{_+_, _≤_};
 ghost use lib.ListN.{length};
-ghost use Rattle.rules.specs.Bytes.{part};
+ghost use Rattle.rules.specs.Bytes.{part, allZero};
 ghost use Rattle.rules.specs.Order.{orderN, orderBytes, isEqual};
-ghost use Rattle.rules.specs.Image.{allZero};
+ghost use Rattle.rules.specs.Room.{hashSize};
 
 // Byte by byte, a prefix first.
 pub fn order_bytes(a: &[u8], b: &[u8]) -> Order
@@ -33,8 +34,8 @@ pub fn order_bytes(a: &[u8], b: &[u8]) -> Order
 
 // Sixteen bytes of each, as two numbers of eight: that goes by words, and the order is the same.
 fn order_parts(a: &[u8], p: usize, b: &[u8], q: usize) -> Order
-    requires { ⌜ (p + 16 ≤ length (now a)) × (q + 16 ≤ length (now b)) ⌝ }
-    ensures { λ r. ⌜ r ≡ orderBytes (part p 16 (now (a .entry))) (part q 16 (now (b .entry))) ⌝ }
+    requires { ⌜ (p + hashSize ≤ length (now a)) × (q + hashSize ≤ length (now b)) ⌝ }
+    ensures { λ r. ⌜ r ≡ orderBytes (part p hashSize (now (a .entry))) (part q hashSize (now (b .entry))) ⌝ }
 {
     let x = get8(a, p);
     let y = get8(b, q);
@@ -60,9 +61,9 @@ fn order_word(x: u64, y: u64) -> Order
 }
 
 // A hash with the one that stands at `at`, "first byte first".
-pub fn order_hash_at(h: [u8; 16], s: &[u8], at: usize) -> Order
-    requires { ⌜ at + 16 ≤ length (now s) ⌝ }
-    ensures { λ r. ⌜ r ≡ orderBytes h (part at 16 (now (s .entry))) ⌝ }
+pub fn order_hash_at(h: [u8; HASH], s: &[u8], at: usize) -> Order
+    requires { ⌜ at + hashSize ≤ length (now s) ⌝ }
+    ensures { λ r. ⌜ r ≡ orderBytes h (part at hashSize (now (s .entry))) ⌝ }
 {
     order_parts(&h, 0, s, at)
 }

@@ -1,8 +1,10 @@
 // Runs of bytes: copied, cleared and moved.
+use rules::HASH;
 ghost use mathlib.Core.Path.{_≡_};
 ghost use Prim.Native.Nat.{ℕ, _+_, _≤_};
 ghost use lib.ListN.{length, replicate};
 ghost use Rattle.rules.specs.Bytes.{part};
+ghost use Rattle.rules.specs.Room.{hashSize};
 ghost use Rattle.octets.specs.Splice.{splice};
 ghost use Rattle.octets.specs.Octets.{IsHash, HashPut};
 
@@ -43,19 +45,19 @@ pub fn move_up(s: &mut [u8], at: usize, len: usize, by: usize)
 }
 
 // The sixteen bytes at `at`.
-pub fn get_hash(s: &[u8], at: usize) -> [u8; 16]
-    requires { ⌜ at + 16 ≤ length (now s) ⌝ }
+pub fn get_hash(s: &[u8], at: usize) -> [u8; HASH]
+    requires { ⌜ at + hashSize ≤ length (now s) ⌝ }
     ensures { λ r. ⌜ IsHash (now (s .entry)) at r ⌝ }
 {
-    let mut h = [0u8; 16];
-    let e = at + 16;
+    let mut h = [0u8; HASH];
+    let e = at + HASH;
     copy_in(&mut h, 0, &s[at..e]);
     h
 }
 
 // Writes sixteen bytes.
-pub fn put_hash(s: &mut [u8], at: usize, h: [u8; 16])
-    requires { ⌜ at + 16 ≤ length (now s) ⌝ }
+pub fn put_hash(s: &mut [u8], at: usize, h: [u8; HASH])
+    requires { ⌜ at + hashSize ≤ length (now s) ⌝ }
     ensures { λ _. ⌜ HashPut (now (s .entry)) at h (now (s .exit)) ⌝ }
 {
     copy_in(s, at, &h);

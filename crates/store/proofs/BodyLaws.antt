@@ -8,17 +8,18 @@ use lib.ListN.{length, take, drop, replicate}
 use lib.Seq.{drop-at, drop-drop}
 use Rattle.rules.specs.declared.Revision.{Revision}
 use Rattle.rules.specs.Bytes.{pieces, join}
-use Rattle.rules.specs.Image.{rowSize, rowBytes, rowOf, nodeIn}
+use Rattle.rules.specs.Layout.{rowSize, rowOf}
 use Rattle.rules.specs.Map.{Map}
 use Rattle.rules.specs.Replica.{Id, Node, Document, Replica, treeOf, documentOf, revisionsHeld}
 use Rattle.rules.specs.Room.{documentsMost, revisionsMost}
 use Rattle.rules.proofs.ByteLaws.{length-join, pieces-join, join-append}
+use Rattle.tree.specs.declared.table.Body.{Body}
+use Rattle.tree.specs.declared.table.Found.{Found}
 use Rattle.tree.specs.declared.table.Found.the-variants.{At, Gap}
-use Rattle.tree.specs.Rows.{FitsRow}
-use Rattle.tree.specs.Table.{treeAt}
-use Rattle.store.specs.declared.read.Body.{Body}
+use Rattle.tree.specs.Rows.{storedRow, nodeHeld, FitsRow}
+use Rattle.tree.specs.Table.{body, treeAt}
 use Rattle.store.specs.Storage.{rowsRoom, rowsPlace, storeSize, filled, rowsIn, storedRows, stored, replicaOf, All, FitsDocument, Storable, Laid}
-use Rattle.store.specs.Documents.{documentsOf, documentAt, firstRow, rowPlace, placeOfId, IsBody, Shows, IsBodyOf}
+use Rattle.store.specs.Documents.{documentsOf, documentAt, firstRow, rowPlace, placeOfId, bodyAt, HasDocument, Looked, IsBody, Shows, IsBodyOf}
 use Rattle.store.proofs.StoredLaws.{length-map, map-append, length-rowsIn, rows-sized, fit-rows, past-contents, tree-back}
 use Rattle.store.proofs.EntryLaws.{document-fits, standing, entry-held}
 use Rattle.store.proofs.PlaceLaws.{id-found, id-gap}
@@ -37,14 +38,14 @@ all-take P (suc n) (x ∷ xs) h = (h .0, all-take P n xs (h .1))
 
 -- rows in the middle of others
 tree-middle : (a t z : List (Revision × Node)) (T : List ℕ) (n : ℕ) → All FitsRow a → All FitsRow t → n ≡ length a * rowSize
-    → map nodeIn (map rowOf (pieces (length t) rowSize (drop n (join (map rowBytes (a ++ (t ++ z))) ++ T)))) ≡ t
+    → map nodeHeld (map rowOf (pieces (length t) rowSize (drop n (join (map storedRow (a ++ (t ++ z))) ++ T)))) ≡ t
 tree-middle a t z T n h k e =
-    let la : length (join (map rowBytes a)) ≡ n = length-join rowSize (map rowBytes a) (rows-sized a h) ∙ (ap (λ (m : ℕ). m * rowSize) (length-map rowBytes a) ∙ sym e) in
-    let s : join (map rowBytes (a ++ (t ++ z))) ++ T ≡ join (map rowBytes a) ++ (join (map rowBytes t) ++ (join (map rowBytes z) ++ T))
-    = rw (map-append rowBytes a (t ++ z), map-append rowBytes t z, join-append (map rowBytes a) (map rowBytes t ++ map rowBytes z), join-append (map rowBytes t) (map rowBytes z)) (simp append-assoc) in
-    let p : pieces (length t) rowSize (join (map rowBytes t) ++ (join (map rowBytes z) ++ T)) ≡ map rowBytes t
-    = rw (sym (length-map rowBytes t)) (pieces-join rowSize (map rowBytes t) (join (map rowBytes z) ++ T) (rows-sized t k)) in
-    rw (s, drop-at (join (map rowBytes a)) (join (map rowBytes t) ++ (join (map rowBytes z) ++ T)) n la, p) (tree-back t k)
+    let la : length (join (map storedRow a)) ≡ n = length-join rowSize (map storedRow a) (rows-sized a h) ∙ (ap (λ (m : ℕ). m * rowSize) (length-map storedRow a) ∙ sym e) in
+    let s : join (map storedRow (a ++ (t ++ z))) ++ T ≡ join (map storedRow a) ++ (join (map storedRow t) ++ (join (map storedRow z) ++ T))
+    = rw (map-append storedRow a (t ++ z), map-append storedRow t z, join-append (map storedRow a) (map storedRow t ++ map storedRow z), join-append (map storedRow t) (map storedRow z)) (simp append-assoc) in
+    let p : pieces (length t) rowSize (join (map storedRow t) ++ (join (map storedRow z) ++ T)) ≡ map storedRow t
+    = rw (sym (length-map storedRow t)) (pieces-join rowSize (map storedRow t) (join (map storedRow z) ++ T) (rows-sized t k)) in
+    rw (s, drop-at (join (map storedRow a)) (join (map storedRow t) ++ (join (map storedRow z) ++ T)) n la, p) (tree-back t k)
 
 body-stored : (r : Replica) (d : ℕ) → Storable r → d < length (r .documents)
     → treeAt (rowPlace (firstRow (r .documents) d)) (length (documentAt (r .documents) d .1 .tree)) (stored r) ≡ documentAt (r .documents) d .1 .tree
@@ -56,15 +57,15 @@ body-stored r d h l =
     let z : List (Revision × Node) = rowsIn (drop (suc d) ds) in
     let fd : FitsDocument (documentAt ds d) = document-fits ds d (h .documents) l in
     let n : length a ≡ revisionsHeld (take d ds) = length-rowsIn (take d ds) in
-    let p : drop (rowSize * revisionsHeld (take d ds)) (drop rowsPlace (stored r)) ≡ drop (rowSize * revisionsHeld (take d ds)) (join (map rowBytes (a ++ (t ++ z))) ++ replicate (rowsRoom - length (join (map rowBytes (rowsIn ds)))) 0)
-    = ap (drop (rowSize * revisionsHeld (take d ds))) (past-contents r h ∙ ap (λ (x : List (Revision × Node)). join (map rowBytes x) ++ replicate (rowsRoom - length (join (map rowBytes (rowsIn ds)))) 0) (rows-split ds d l)) in
+    let p : drop (rowSize * revisionsHeld (take d ds)) (drop rowsPlace (stored r)) ≡ drop (rowSize * revisionsHeld (take d ds)) (join (map storedRow (a ++ (t ++ z))) ++ replicate (rowsRoom - length (join (map storedRow (rowsIn ds)))) 0)
+    = ap (drop (rowSize * revisionsHeld (take d ds))) (past-contents r h ∙ ap (λ (x : List (Revision × Node)). join (map storedRow x) ++ replicate (rowsRoom - length (join (map storedRow (rowsIn ds)))) 0) (rows-split ds d l)) in
     rw (sym (drop-drop (rowSize * revisionsHeld (take d ds)) rowsPlace (stored r)), p)
     (tree-middle a t z _ (rowSize * revisionsHeld (take d ds)) (fit-rows (take d ds) (all-take FitsDocument d ds (h .documents))) (fd .rows) (omega arith))
 
 pub body-shows : (s : List ℕ) (d : ℕ) (b : Body) → IsBody s d b → Shows s b (documentAt (documentsOf s) d .1 .tree)
 body-shows s d b h =
     let q = standing s (h .document .laid) in
-    let f = entry-held s d (h .document) in
+    let f = entry-held s d _ (h .document) refl in
     let r = replicaOf s in
     let l = h .document .laid in
     record {
@@ -81,14 +82,38 @@ found-body s i d b e h =
     let n = h .rows in
     record { is = rw e (λ j. record { base = p j; rows = n j }); shows = record { within = w .within; tree = w .tree ∙ rw (f .found) } }
 
-pub absent-body : (s : List ℕ) (i : Id) (d : ℕ) → Laid s → placeOfId 0 i (documentsOf s) ≡ Gap d → IsBodyOf s i (record { base = rowsPlace; rows = 0 })
+pub absent-body : (s : List ℕ) (i : Id) (d : ℕ) → Laid s → placeOfId 0 i (documentsOf s) ≡ Gap d → IsBodyOf s i (body rowsPlace 0)
 unfolding treeOf documentOf treeAt pieces
 absent-body s i d l e =
     let q = standing s l in
     let f = id-gap d i (documentsOf s) e in
     record { is = rw e; shows = record { within = omega arith; tree = rw (f .found) } }
 
--- where a document's rows stand among the others, in numbers
+-- ---- the document that was looked for
+
+pub body-is : (s : List ℕ) (d : ℕ) (b : Body) → IsBody s d b → b ≡ bodyAt (documentsOf s) (At d)
+body-is s d b h = λ i. body (h .base i) (h .rows i)
+
+pub is-body : (s : List ℕ) (d : ℕ) (b : Body) → HasDocument s d → b ≡ bodyAt (documentsOf s) (At d) → IsBody s d b
+is-body s d b h e = record { document = h; base = ap (λ (x : Body). x .base) e; rows = ap (λ (x : Body). x .rows) e }
+
+module _ {s : List ℕ} (i : Id) (laid : Laid s) where
+  pub looked : {f : Found} → placeOfId 0 i (documentsOf s) ≡ f → Looked s f
+  looked {f} = go f
+    where
+      go : (g : Found) → placeOfId 0 i (documentsOf s) ≡ g → Looked s g
+      go (At d) e = record { laid = laid; within = id-found d i (documentsOf s) e .within }
+      go (Gap d) e = laid
+
+  pub place-body : {f : Found} {b : Body} → placeOfId 0 i (documentsOf s) ≡ f → b ≡ bodyAt (documentsOf s) f → IsBodyOf s i b
+  place-body {f} {b} = go f
+    where
+      go : (g : Found) → placeOfId 0 i (documentsOf s) ≡ g → b ≡ bodyAt (documentsOf s) g → IsBodyOf s i b
+      go (At d) e h = found-body s i d b e (is-body s d b (looked e) h)
+      go (Gap d) e h = rw h (absent-body s i d laid e)
+
+-- ---- where a document's rows stand among the others, in numbers
+
 pub record BodyStanding (s : List ℕ) (d : ℕ) (b : Body) : Type 0 where
   pub size : length s ≡ storeSize
   pub base : b .base ≡ rowsPlace + rowSize * firstRow (documentsOf s) d
@@ -99,7 +124,7 @@ pub record BodyStanding (s : List ℕ) (d : ℕ) (b : Body) : Type 0 where
 pub body-standing : (s : List ℕ) (d : ℕ) (b : Body) → IsBody s d b → BodyStanding s d b
 body-standing s d b h =
     let q = standing s (h .document .laid) in
-    let f = entry-held s d (h .document) in
+    let f = entry-held s d _ (h .document) refl in
     let w = h .document .within in
     record {
       size = q .size;

@@ -6,18 +6,20 @@ use mathlib.Core.List.{List, [], _∷_, _++_, map, append-assoc}
 use lib.ListN.{length, getD, replicate, set, length-append, length-replicate, replicate-append-replicate}
 use Rattle.rules.specs.declared.Seq.{Seq}
 use Rattle.rules.specs.Bytes.{be, part, join}
-use Rattle.rules.specs.Image.{headSize, entrySize, entryBytes, rowBytes}
+use Rattle.rules.specs.Layout.{documentsAt, revisionsAt, sequenceAt, headSize, ownIn, entrySize}
 use Rattle.rules.specs.Map.{Map}
 use Rattle.rules.specs.Replica.{Id, Document, Replica, fresh, revisionsHeld}
-use Rattle.rules.specs.Room.{documentsMost, idMost, last}
+use Rattle.rules.specs.Room.{documentsMost, idMost, seqMost}
 use Rattle.rules.proofs.ByteLaws.{length-be}
 use Rattle.octets.specs.Splice.{splice}
 use Rattle.octets.proofs.SpliceLaws.{replace, splice-whole}
-use Rattle.store.specs.Storage.{contentsRoom, rowsRoom, storeSize, filled, storedHead, storedEntries, rowsIn, storedRows, stored, replicaOf, All, FitsDocument, Storable}
-use Rattle.store.specs.Documents.{documentsOf, noDocument, documentAt, entryPlace, HasDocument}
+use Rattle.layout.specs.Fields.{entryPlace}
+use Rattle.store.specs.Storage.{contentsRoom, rowsRoom, storeSize, filled, storedHead, storedEntry, storedEntries, rowsIn, storedRows, stored, replicaOf, All, FitsDocument, Storable}
+use Rattle.store.specs.Documents.{documentsOf, noDocument, documentAt, HasDocument}
+use Rattle.tree.specs.Rows.{storedRow}
 use Rattle.tree.specs.Table.{insertAt}
 use Rattle.store.specs.Change.{modify, blank, withDocument, setSeq, withSeq, Holds, CanAddDocument}
-use Rattle.store.proofs.RoundLaws.{length-entry}
+use Rattle.store.proofs.RoundLaws.{length-entry, entry-own}
 use Rattle.store.proofs.StoredLaws.{length-map, entries-sized, length-head, stored-back, laid-stored, fresh-fits, fresh-stored}
 use Rattle.store.proofs.EntryLaws.{document-fits}
 use Rattle.store.proofs.TableLaws.{length-modify, length-insert, map-insert, table-splice, table-insert}
@@ -29,54 +31,17 @@ holds r s h e = record { bytes = e; laid = laid-stored r h s e; means = ap repli
 -- ---- the head
 
 module _ (d r q : ℕ) (T : List ℕ) where
-  pub put-documents : (n : ℕ) → splice (storedHead d r q ++ T) 2 (be 2 n) ≡ storedHead n r q ++ T
+  pub put-documents : (n : ℕ) → splice (storedHead d r q ++ T) documentsAt (be 2 n) ≡ storedHead n r q ++ T
   unfolding splice storedHead be
   put-documents n = refl
 
-  pub put-revisions : (n : ℕ) → splice (storedHead d r q ++ T) 4 (be 2 n) ≡ storedHead d n q ++ T
+  pub put-revisions : (n : ℕ) → splice (storedHead d r q ++ T) revisionsAt (be 2 n) ≡ storedHead d n q ++ T
   unfolding splice storedHead be
   put-revisions n = refl
 
-  pub put-seq : (n : ℕ) → splice (storedHead d r q ++ T) 8 (be 4 n) ≡ storedHead d r n ++ T
+  pub put-seq : (n : ℕ) → splice (storedHead d r q ++ T) sequenceAt (be 4 n) ≡ storedHead d r n ++ T
   unfolding splice storedHead be
   put-seq n = refl
-
--- ---- an entry
-
--- the bytes before its count
-abbrev entryFront : Id → List ℕ
-entryFront i = length i ∷ (i ++ (replicate (idMost - length i) 0 ++ (0 ∷ [])))
-
-length-front : (i : Id) → length i ≤ idMost → length (entryFront i) ≡ 34
-length-front i h = simp (length-append, length-replicate) (omega arith)
-
-entry-split : (x : Id × Document) → entryBytes 0 x ≡ entryFront (x .0) ++ (be 2 (length (x .1 .tree)) ++ (be 4 (x .1 .seq .0) ++ be 4 0))
-unfolding entryBytes
-entry-split x = simp append-assoc
-
-pub entry-count : (x y : Id × Document) → length (x .0) ≤ idMost → y .0 ≡ x .0 → y .1 .seq ≡ x .1 .seq
-    → splice (entryBytes 0 x) 34 (be 2 (length (y .1 .tree))) ≡ entryBytes 0 y
-entry-count x y h i q =
-    let n = length-front (x .0) h in
-    let F : List ℕ = entryFront (x .0) in
-    rw (entry-split x, entry-split y, i, q, replace F (be 2 (length (x .1 .tree))) (be 4 (x .1 .seq .0) ++ be 4 0) (be 2 (length (y .1 .tree))) 34 n (length-be 2 _ ∙ sym (length-be 2 _)))
-
-entry-seq : (x y : Id × Document) → length (x .0) ≤ idMost → y .0 ≡ x .0 → y .1 .tree ≡ x .1 .tree
-    → splice (entryBytes 0 x) 36 (be 4 (y .1 .seq .0)) ≡ entryBytes 0 y
-entry-seq x y h i q =
-    let n = length-front (x .0) h in
-    let c = length-be 2 (length (x .1 .tree)) in
-    let F : List ℕ = entryFront (x .0) in
-    let C : List ℕ = be 2 (length (x .1 .tree)) in
-    rw (
-      entry-split x,
-      entry-split y,
-      i,
-      q,
-      sym (append-assoc F C (be 4 (x .1 .seq .0) ++ be 4 0)),
-      replace (F ++ C) (be 4 (x .1 .seq .0)) (be 4 0) (be 4 (y .1 .seq .0)) 36 (simp (length-append, length-replicate, length-be) (omega arith)) (length-be 4 _ ∙ sym (length-be 4 _)),
-    )
-    (append-assoc F C (be 4 (y .1 .seq .0) ++ be 4 0))
 
 -- ---- lists of documents
 
@@ -116,13 +81,13 @@ rows-seq (suc d) q (x ∷ ds) = rw (rows-seq d q ds)
 -- part of an entry is written
 pub put-entry : (ds : Map Id Document) (n m q : ℕ) (W : List ℕ) (d k p : ℕ) (y : List ℕ) (g : Id × Document → Id × Document)
     → All FitsDocument ds → p ≡ entryPlace d + k → d < length ds → k + length y ≤ entrySize
-    → splice (entryBytes 0 (documentAt ds d)) k y ≡ entryBytes 0 (g (documentAt ds d))
+    → splice (storedEntry (documentAt ds d)) k y ≡ storedEntry (g (documentAt ds d))
     → splice (storedHead n m q ++ (filled contentsRoom (join (storedEntries ds)) ++ W)) p y
     ≡ storedHead n m q ++ (filled contentsRoom (join (storedEntries (modify d g ds))) ++ W)
 unfolding storedEntries documentAt
 put-entry ds n m q W d k p y g h e l z x =
-    let o = modify-map (entryBytes 0) g (λ (b : List ℕ). splice b k y) d ds noDocument x in
-    table-splice (storedHead n m q) headSize entrySize contentsRoom (map (entryBytes 0) ds) W (length-head _ _ _) (entries-sized ds h) p d k y (omega arith) (rw (length-map (entryBytes 0) ds) l) z
+    let o = modify-map storedEntry g (λ (b : List ℕ). splice b k y) d ds noDocument x in
+    table-splice (storedHead n m q) headSize entrySize contentsRoom (map storedEntry ds) W (length-head _ _ _) (entries-sized ds h) p d k y (omega arith) (rw (length-map storedEntry ds) l) z
     ∙ rw o
 
 -- ---- sequences
@@ -132,18 +97,18 @@ module _ (r : Replica) (h : Storable r) where
   ds = r .documents
 
   seq-bytes : (d : ℕ) (q : Seq) → d < length ds
-      → splice (splice (stored r) (entryPlace d + 36) (be 4 (q .0))) 8 (be 4 (q .0)) ≡ stored (withSeq d q r)
+      → splice (splice (stored r) (entryPlace d + ownIn) (be 4 (q .0))) sequenceAt (be 4 (q .0)) ≡ stored (withSeq d q r)
   unfolding stored withSeq storedRows
   seq-bytes d q l =
       let x : Id × Document = documentAt ds d in
-      let e = entry-seq x (setSeq q x) (document-fits ds d (h .documents) l .id) refl refl in
+      let e = entry-own x (setSeq q x) (document-fits ds d (h .documents) l .id) refl refl in
       let n = length-be 4 (q .0) in
-      let p = put-entry ds (length ds) (revisionsHeld ds) (r .seq .0) _ d 36 (entryPlace d + 36) (be 4 (q .0)) (setSeq q) (h .documents) refl l (omega arith) e in
-      ap (λ (s : List ℕ). splice s 8 (be 4 (q .0))) p
+      let p = put-entry ds (length ds) (revisionsHeld ds) (r .seq .0) _ d ownIn (entryPlace d + ownIn) (be 4 (q .0)) (setSeq q) (h .documents) refl l (omega arith) e in
+      ap (λ (s : List ℕ). splice s sequenceAt (be 4 (q .0))) p
       ∙ (put-seq (length ds) (revisionsHeld ds) (r .seq .0) _ (q .0)
       ∙ rw (length-modify d (setSeq q) ds, held-seq d q ds, rows-seq d q ds))
 
-  seq-fits : (d : ℕ) (q : Seq) → d < length ds → q .0 ≤ last → Storable (withSeq d q r)
+  seq-fits : (d : ℕ) (q : Seq) → d < length ds → q .0 ≤ seqMost → Storable (withSeq d q r)
   unfolding withSeq documentAt
   seq-fits d q l m =
       let f = document-fits ds d (h .documents) l in
@@ -154,11 +119,11 @@ module _ (r : Replica) (h : Storable r) where
         «seq-most» = m;
       }
 
-pub seq-holds : (s s₁ s₂ : List ℕ) (d p : ℕ) (q : Seq) → HasDocument s d → q .0 ≤ last → p ≡ entryPlace d
-    → s₁ ≡ splice s (p + 36) (be 4 (q .0)) → s₂ ≡ splice s₁ 8 (be 4 (q .0)) → Holds (withSeq d q (replicaOf s)) s₂
+pub seq-holds : (s s₁ s₂ : List ℕ) (d p : ℕ) (q : Seq) → HasDocument s d → q .0 ≤ seqMost → p ≡ entryPlace d
+    → s₁ ≡ splice s (p + ownIn) (be 4 (q .0)) → s₂ ≡ splice s₁ sequenceAt (be 4 (q .0)) → Holds (withSeq d q (replicaOf s)) s₂
 seq-holds s s₁ s₂ d p q h m e f g =
     holds (withSeq d q (replicaOf s)) s₂ (seq-fits (replicaOf s) (h .laid .fits) d q (h .within) m)
-    (rw (g, f, e) (ap (λ (b : List ℕ). splice (splice b (entryPlace d + 36) (be 4 (q .0))) 8 (be 4 (q .0))) (h .laid .same) ∙ seq-bytes (replicaOf s) (h .laid .fits) d q (h .within)))
+    (rw (g, f, e) (ap (λ (b : List ℕ). splice (splice b (entryPlace d + ownIn) (be 4 (q .0))) sequenceAt (be 4 (q .0))) (h .laid .same) ∙ seq-bytes (replicaOf s) (h .laid .fits) d q (h .within)))
 
 -- ---- a new document
 
@@ -176,16 +141,16 @@ rows-insert (suc at) x (y ∷ ds) e = rw (rows-insert at x ds e)
 
 module _ (r : Replica) (h : Storable r) (at : ℕ) (i : Id) (place : at ≤ length (r .documents)) (room : length (r .documents) < documentsMost) (short : length i ≤ idMost) where
   document-bytes : (p len : ℕ) → p ≡ entryPlace at → len ≡ (length (r .documents) - at) * entrySize
-      → splice (splice (splice (stored r) (p + entrySize) (part p len (stored r))) p (entryBytes 0 (blank i))) 2 (be 2 (length (r .documents) + 1)) ≡ stored (withDocument at i r)
+      → splice (splice (splice (stored r) (p + entrySize) (part p len (stored r))) p (storedEntry (blank i))) documentsAt (be 2 (length (r .documents) + 1)) ≡ stored (withDocument at i r)
   unfolding stored withDocument storedEntries storedRows
   document-bytes p len e f =
       let docs = r .documents in
-      let t = table-insert (storedHead (length docs) (revisionsHeld docs) (r .seq .0)) headSize entrySize contentsRoom (map (entryBytes 0) docs) (filled rowsRoom (join (map rowBytes (rowsIn docs)))) (length-head _ _ _) (entries-sized docs (h .documents))
-      (length docs) at p len (entryBytes 0 (blank i)) (sym (length-map (entryBytes 0) docs)) place (omega arith) (length-entry (blank i) short) (omega arith) f in
+      let t = table-insert (storedHead (length docs) (revisionsHeld docs) (r .seq .0)) headSize entrySize contentsRoom (map storedEntry docs) (filled rowsRoom (join (map storedRow (rowsIn docs)))) (length-head _ _ _) (entries-sized docs (h .documents))
+      (length docs) at p len (storedEntry (blank i)) (sym (length-map storedEntry docs)) place (omega arith) (length-entry (blank i) short) (omega arith) f in
       let n : length (insertAt at (blank i) docs) ≡ length docs + 1 = length-insert at (blank i) docs place ∙ omega arith in
-      ap (λ (s : List ℕ). splice s 2 (be 2 (length docs + 1))) t
+      ap (λ (s : List ℕ). splice s documentsAt (be 2 (length docs + 1))) t
       ∙ (put-documents (length docs) (revisionsHeld docs) (r .seq .0) _ (length docs + 1)
-      ∙ rw (n, held-insert at (blank i) docs refl, rows-insert at (blank i) docs refl, map-insert (entryBytes 0) at (blank i) docs))
+      ∙ rw (n, held-insert at (blank i) docs refl, rows-insert at (blank i) docs refl, map-insert storedEntry at (blank i) docs))
 
   blank-fits : Storable (withDocument at i r)
   unfolding withDocument
@@ -199,13 +164,13 @@ module _ (r : Replica) (h : Storable r) (at : ℕ) (i : Id) (place : at ≤ leng
       }
 
 pub document-holds : (s s₁ s₂ s₃ : List ℕ) (at : ℕ) (i : Id) (n p len : ℕ) → CanAddDocument s at i → n ≡ length (documentsOf s) → p ≡ entryPlace at → len ≡ (n - at) * entrySize
-    → s₁ ≡ splice s (p + entrySize) (part p len s) → s₂ ≡ splice s₁ p (entryBytes 0 (blank i)) → s₃ ≡ splice s₂ 2 (be 2 (n + 1))
+    → s₁ ≡ splice s (p + entrySize) (part p len s) → s₂ ≡ splice s₁ p (storedEntry (blank i)) → s₃ ≡ splice s₂ documentsAt (be 2 (n + 1))
     → Holds (withDocument at i (replicaOf s)) s₃
 document-holds s s₁ s₂ s₃ at i n p len h e f g a b c =
     let r = replicaOf s in
     let l = h .laid in
     holds (withDocument at i r) s₃ (blank-fits r (l .fits) at i (h .place) (h .room) (h .id))
-    (rw (c, b, a, e) (ap (λ (x : List ℕ). splice (splice (splice x (p + entrySize) (part p len x)) p (entryBytes 0 (blank i))) 2 (be 2 (length (documentsOf s) + 1))) (l .same)
+    (rw (c, b, a, e) (ap (λ (x : List ℕ). splice (splice (splice x (p + entrySize) (part p len x)) p (storedEntry (blank i))) documentsAt (be 2 (length (documentsOf s) + 1))) (l .same)
     ∙ document-bytes r (l .fits) at i (h .place) (h .room) (h .id) p len f (rw e at g)))
 
 -- ---- fresh
@@ -213,15 +178,3 @@ document-holds s s₁ s₂ s₃ at i n p len h e f g a b c =
 pub fresh-holds : (s s₁ : List ℕ) → length s ≡ storeSize → s₁ ≡ splice s 0 (replicate storeSize 0) → Holds fresh s₁
 fresh-holds s s₁ h e =
     holds fresh s₁ fresh-fits (e ∙ (splice-whole s (replicate storeSize 0) (length-replicate {A = ℕ} storeSize 0 ∙ sym h) ∙ sym fresh-stored))
-
--- the bytes of a blank entry
-pub blank-bytes : (i t t₁ : List ℕ) → length i ≤ idMost → t ≡ set (replicate entrySize 0) 0 (length i) → t₁ ≡ splice t 1 i → t₁ ≡ entryBytes 0 (blank i)
-unfolding entryBytes be
-blank-bytes i t t₁ h e f =
-    let z : _≡_ {A = List ℕ} (replicate 43 0) (replicate (length i) 0 ++ replicate (43 - length i) 0) = let k : length i + (43 - length i) ≡ 43 = omega arith in rw (replicate-append-replicate {A = ℕ} (length i) (43 - length i) 0, k) in
-    let y : _≡_ {A = List ℕ} (replicate (43 - length i) 0) (replicate (idMost - length i) 0 ++ replicate 11 0) = let k : idMost - length i + 11 ≡ 43 - length i = omega arith in rw (replicate-append-replicate {A = ℕ} (idMost - length i) 11 0, k) in
-    f ∙ (ap (λ (x : List ℕ). splice x 1 i) (e ∙ ap (λ (x : List ℕ). length i ∷ x) z)
-    ∙ (replace (length i ∷ []) (replicate (length i) 0) (replicate (43 - length i) 0) i 1 refl (length-replicate {A = ℕ} (length i) 0) ∙ rw y))
-
-pub length-blank : (i t : List ℕ) → length i ≤ idMost → t ≡ entryBytes 0 (blank i) → length t ≡ entrySize
-length-blank i t h e = ap length e ∙ length-entry (blank i) h

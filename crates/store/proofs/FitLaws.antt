@@ -11,7 +11,7 @@ use Rattle.rules.specs.declared.Revision.{Revision}
 use Rattle.rules.specs.Map.{Map, find, Below, Ascending}
 use Rattle.rules.specs.Order.{orderRev}
 use Rattle.rules.specs.Replica.{Id, Node, Tree, Document, Replica, documentOf, largestSeq, IsTree, IsDocument, IsReplica}
-use Rattle.rules.specs.Room.{last}
+use Rattle.rules.specs.Room.{seqMost}
 use Rattle.rules.proofs.OrderLaws.{TotalOrder, bytesOrder, revOrder}
 use Rattle.rules.proofs.MapLaws.{none≢some, find-eq, find-gt, find-below}
 use Rattle.tree.specs.Rows.{FitsParent, FitsContent, FitsRow}
@@ -69,13 +69,13 @@ unfolding documentOf
 replica-fits r h = record {
   documents = both document (r .documents)
       (all-found bytesOrder (λ (d : Id × Document). IsDocument r (d .0) (d .1)) (r .documents) (h .ascending) (h .documents))
-      (seqs-most (r .documents) last (omega (arith, h .seq-largest, h .seq-most)));
+      (seqs-most (r .documents) seqMost (omega (arith, h .seq-largest, h .seq-most)));
   «documents-most» = h .documents-most;
   «revisions-most» = h .revisions-most;
   «seq-most» = h .seq-most;
 }
   where
-    document : (d : Id × Document) → IsDocument r (d .0) (d .1) → d .1 .seq .0 ≤ last → FitsDocument d
+    document : (d : Id × Document) → IsDocument r (d .0) (d .1) → d .1 .seq .0 ≤ seqMost → FitsDocument d
     document d k q = record { id = k .id .most; seq = q; rows = tree-fits (d .1 .tree) (k .tree) }
 
 pub stored-laid : (s : List ℕ) → IsStored s → Laid s

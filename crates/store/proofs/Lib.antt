@@ -10,5 +10,4 @@ pub mod PlaceLaws
 pub mod BodyLaws
 pub mod RowChangeLaws
 pub mod LearnLaws
-pub mod AddedLaws
 pub mod Outcomes

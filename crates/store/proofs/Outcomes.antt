@@ -4,8 +4,10 @@ use mathlib.Core.List.{List}
 use Prim.Native.Nat.{ℕ}
 use Rattle.rules.specs.Outcome.{OneOutcome, OneOutcomeBy, nothing}
 use Rattle.rules.proofs.OutcomeLaws.{fixed}
-use Rattle.store.specs.declared.read.Body.{Body}
+use Rattle.tree.specs.declared.table.Body.{Body}
 use Rattle.store.specs.Documents.{IsBody}
+use Rattle.store.proofs.read.bad_id.Kinds as bad-id
+use Rattle.store.proofs.read.bad_id.Reads as bad-id'
 use Rattle.store.proofs.read.documents_held.Kinds as documents-held
 use Rattle.store.proofs.read.documents_held.Reads as documents-held'
 use Rattle.store.proofs.read.revisions_held.Kinds as revisions-held
@@ -22,6 +24,8 @@ use Rattle.store.proofs.read.find_document.Kinds as find-document
 use Rattle.store.proofs.read.find_document.Reads as find-document'
 use Rattle.store.proofs.read.body_of.Kinds as body-of
 use Rattle.store.proofs.read.body_of.Reads as body-of'
+use Rattle.store.proofs.read.body_at.Kinds as body-at
+use Rattle.store.proofs.read.body_at.Reads as body-at'
 use Rattle.store.proofs.read.body_of_id.Kinds as body-of-id
 use Rattle.store.proofs.read.body_of_id.Reads as body-of-id'
 use Rattle.store.proofs.change.make_fresh.Kinds as make-fresh
@@ -38,6 +42,9 @@ one-body p q =
     let b = fixed (p .base) (q .base) in
     let n = fixed (p .rows) (q .rows) in
     λ i. record { base = b i; rows = n i }
+
+pub bad-id-outcome : OneOutcome _ bad-id.ps bad-id.r bad-id'.Asked bad-id'.Learnt nothing
+bad-id-outcome κs a x y s t h p q = (fixed p q, refl)
 
 pub documents-held-outcome : OneOutcome _ documents-held.ps documents-held.r documents-held'.Asked documents-held'.Learnt nothing
 documents-held-outcome κs a x y s t h p q = (fixed p q, refl)
@@ -62,6 +69,9 @@ find-document-outcome κs a x y s t h p q = (fixed p q, refl)
 
 pub body-of-outcome : OneOutcome _ body-of.ps body-of.r body-of'.Asked body-of'.Learnt nothing
 body-of-outcome κs a x y s t h p q = (one-body p q, refl)
+
+pub body-at-outcome : OneOutcome _ body-at.ps body-at.r body-at'.Asked body-at'.Learnt nothing
+body-at-outcome κs a x y s t h p q = (fixed p q, refl)
 
 pub body-of-id-outcome : OneOutcome _ body-of-id.ps body-of-id.r body-of-id'.Asked body-of-id'.Learnt nothing
 body-of-id-outcome κs a x y s t h p q = (fixed (p .is) (q .is), refl)

@@ -7,12 +7,13 @@ use lib.ListN.{length, take, drop, replicate, length-append, length-replicate}
 use lib.Seq.{take-at, drop-at}
 use Rattle.rules.specs.declared.Revision.{Revision}
 use Rattle.rules.specs.Bytes.{be, valueFrom, value, part, join}
-use Rattle.rules.specs.Image.{Row, headSize, entrySize, rowSize, entryBytes, rowBytes, headOf, entryOf, rowOf, entriesOf, deal, nodeIn, documentsIn}
+use Rattle.rules.specs.Image.{entriesOf, deal, documentsIn}
+use Rattle.rules.specs.Layout.{Row, headSize, entrySize, rowSize, headOf, entryOf, rowOf}
 use Rattle.rules.specs.Map.{Map}
 use Rattle.rules.specs.Replica.{Id, Node, Tree, Document, Replica, fresh, revisionsHeld}
-use Rattle.rules.specs.Room.{documentsMost, revisionsMost, last}
-use Rattle.tree.specs.Rows.{FitsRow}
-use Rattle.store.specs.Storage.{contentsRoom, rowsRoom, rowsPlace, storeSize, filled, storedHead, storedEntries, rowsIn, storedRows, stored, rowsHeld, replicaOf, All, FitsDocument, Storable, Laid}
+use Rattle.rules.specs.Room.{documentsMost, revisionsMost, seqMost}
+use Rattle.tree.specs.Rows.{storedRow, nodeHeld, FitsRow}
+use Rattle.store.specs.Storage.{contentsRoom, rowsRoom, rowsPlace, storeSize, filled, storedHead, storedEntry, storedEntries, rowsIn, storedRows, stored, rowsHeld, replicaOf, All, FitsDocument, Storable, Laid}
 use Rattle.rules.proofs.ByteLaws.{Sized, length-join, pieces-join}
 use Rattle.store.proofs.PieceLaws.{drop-past}
 use Rattle.tree.proofs.RowLaws.{length-row, row-back}
@@ -42,7 +43,7 @@ unfolding rowsIn
 fit-rows [] h = tt
 fit-rows (d ∷ ds) h = fit-append (d .1 .tree) (rowsIn ds) (h .0 .rows) (fit-rows ds (h .1))
 
-pub rows-sized : (vs : List (Revision × Node)) → All FitsRow vs → Sized rowSize (map rowBytes vs)
+pub rows-sized : (vs : List (Revision × Node)) → All FitsRow vs → Sized rowSize (map storedRow vs)
 rows-sized [] h = tt
 rows-sized (v ∷ vs) h = (length-row v (h .0), rows-sized vs (h .1))
 
@@ -70,30 +71,30 @@ module _ (d r q : ℕ) (T : List ℕ) where
   unfolding headOf storedHead be value valueFrom part
   head-revisions h = omega arith
 
-  pub head-seq : q ≤ last → headOf (storedHead d r q ++ T) .seq ≡ q
+  pub head-seq : q ≤ seqMost → headOf (storedHead d r q ++ T) .seq ≡ q
   unfolding headOf storedHead be value valueFrom part
   head-seq h = omega arith
 
 -- ---- reading all back
 
-pub tree-back : (t : Tree) → All FitsRow t → map nodeIn (map rowOf (map rowBytes t)) ≡ t
+pub tree-back : (t : Tree) → All FitsRow t → map nodeHeld (map rowOf (map storedRow t)) ≡ t
 tree-back [] h = refl
 tree-back (v ∷ t) h = ap₂ _∷_ (row-back v (h .0)) (tree-back t (h .1))
 
 documents-back : (ds : Map Id Document) → All FitsDocument ds → revisionsHeld ds ≤ revisionsMost
-    → documentsIn (map entryOf (storedEntries ds)) (deal (map entryOf (storedEntries ds)) (map rowOf (storedRows ds))) ≡ ds
+    → documentsIn nodeHeld (map entryOf (storedEntries ds)) (deal (map entryOf (storedEntries ds)) (map rowOf (storedRows ds))) ≡ ds
 unfolding documentsIn deal storedEntries storedRows rowsIn revisionsHeld
 documents-back [] h m = refl
 documents-back (d ∷ ds) h m =
     let f = entry-fields d (h .0 .id) (omega arith) (h .0 .seq) in
-    let t : List Row = map rowOf (map rowBytes (d .1 .tree)) in
-    let w : List Row = map rowOf (map rowBytes (rowsIn ds)) in
-    let n : length t ≡ length (d .1 .tree) = length-map rowOf (map rowBytes (d .1 .tree)) ∙ length-map rowBytes (d .1 .tree) in
-    let s : map rowOf (map rowBytes (d .1 .tree ++ rowsIn ds)) ≡ t ++ w = ap (map rowOf) (map-append rowBytes (d .1 .tree) (rowsIn ds)) ∙ map-append rowOf (map rowBytes (d .1 .tree)) (map rowBytes (rowsIn ds)) in
+    let t : List Row = map rowOf (map storedRow (d .1 .tree)) in
+    let w : List Row = map rowOf (map storedRow (rowsIn ds)) in
+    let n : length t ≡ length (d .1 .tree) = length-map rowOf (map storedRow (d .1 .tree)) ∙ length-map storedRow (d .1 .tree) in
+    let s : map rowOf (map storedRow (d .1 .tree ++ rowsIn ds)) ≡ t ++ w = ap (map rowOf) (map-append storedRow (d .1 .tree) (rowsIn ds)) ∙ map-append rowOf (map storedRow (d .1 .tree)) (map storedRow (rowsIn ds)) in
     let b = tree-back (d .1 .tree) (h .0 .rows) in
     let i = f .id in
     let q = f .seq in
-    let x : map nodeIn (take (length (d .1 .tree)) (t ++ w)) ≡ d .1 .tree = ap (map nodeIn) (take-at t w _ n) ∙ b in
+    let x : map nodeHeld (take (length (d .1 .tree)) (t ++ w)) ≡ d .1 .tree = ap (map nodeHeld) (take-at t w _ n) ∙ b in
     rw (s, f .rows, drop-at t w _ n)
     (ap₂ _∷_ (λ j. (i j, record { seq = record { 0 = q j }; tree = x j })) (documents-back ds (h .1) (omega arith)))
 
@@ -106,13 +107,13 @@ module _ (r : Replica) (h : Storable r) where
   unfolding storedEntries
   size-entries =
       length-join entrySize (storedEntries (r .documents)) (entries-sized (r .documents) (h .documents))
-      ∙ ap (λ (n : ℕ). n * entrySize) (length-map (entryBytes 0) (r .documents))
+      ∙ ap (λ (n : ℕ). n * entrySize) (length-map storedEntry (r .documents))
 
   pub size-rows : length (join (storedRows (r .documents))) ≡ revisionsHeld (r .documents) * rowSize
   unfolding storedRows
   size-rows =
       length-join rowSize (storedRows (r .documents)) (rows-sized (rowsIn (r .documents)) (fit-rows (r .documents) (h .documents)))
-      ∙ ap (λ (n : ℕ). n * rowSize) (length-map rowBytes (rowsIn (r .documents)) ∙ length-rowsIn (r .documents))
+      ∙ ap (λ (n : ℕ). n * rowSize) (length-map storedRow (rowsIn (r .documents)) ∙ length-rowsIn (r .documents))
 
   pub size-contents : length (filled contentsRoom (join (storedEntries (r .documents)))) ≡ contentsRoom
   size-contents = length-filled contentsRoom _ (omega (arith, size-entries, h .documents-most))
@@ -150,14 +151,14 @@ module _ (r : Replica) (h : Storable r) where
   entries-stored : entriesOf (stored r) ≡ map entryOf (storedEntries (r .documents))
   unfolding entriesOf filled storedEntries
   entries-stored =
-      let n : length (map (entryBytes 0) (r .documents)) ≡ length (r .documents) = length-map (entryBytes 0) (r .documents) in
-      rw (documents-stored, past-head, append-assoc (join (map (entryBytes 0) (r .documents))) _ (filled rowsRoom _), sym n)
+      let n : length (map storedEntry (r .documents)) ≡ length (r .documents) = length-map storedEntry (r .documents) in
+      rw (documents-stored, past-head, append-assoc (join (map storedEntry (r .documents))) _ (filled rowsRoom _), sym n)
       (ap (map entryOf) (pieces-join entrySize (storedEntries (r .documents)) _ (entries-sized (r .documents) (h .documents))))
 
   rows-stored : rowsHeld (stored r) ≡ map rowOf (storedRows (r .documents))
   unfolding rowsHeld filled storedRows
   rows-stored =
-      let n : length (map rowBytes (rowsIn (r .documents))) ≡ revisionsHeld (r .documents) = length-map rowBytes (rowsIn (r .documents)) ∙ length-rowsIn (r .documents) in
+      let n : length (map storedRow (rowsIn (r .documents))) ≡ revisionsHeld (r .documents) = length-map storedRow (rowsIn (r .documents)) ∙ length-rowsIn (r .documents) in
       rw (revisions-stored, past-contents, sym n)
       (ap (map rowOf) (pieces-join rowSize (storedRows (r .documents)) _ (rows-sized (rowsIn (r .documents)) (fit-rows (r .documents) (h .documents)))))
 
@@ -165,7 +166,7 @@ module _ (r : Replica) (h : Storable r) where
   pub stored-back : replicaOf (stored r) ≡ r
   unfolding replicaOf
   stored-back =
-      let d : documentsIn (entriesOf (stored r)) (deal (entriesOf (stored r)) (rowsHeld (stored r))) ≡ r .documents
+      let d : documentsIn nodeHeld (entriesOf (stored r)) (deal (entriesOf (stored r)) (rowsHeld (stored r))) ≡ r .documents
       = rw (entries-stored, rows-stored) (documents-back (r .documents) (h .documents) (h .revisions-most)) in
       let q = seq-stored in
       λ i. record { seq = record { 0 = q i }; documents = d i }
@@ -178,10 +179,6 @@ module _ (r : Replica) (h : Storable r) where
 
 pub size-laid : (s : List ℕ) → Laid s → length s ≡ storeSize
 size-laid s h = ap length (h .same) ∙ size-stored (replicaOf s) (h .fits)
-
--- two buffers that mean the same replica are the same bytes
-pub laid-once : (s t : List ℕ) → Laid s → Laid t → replicaOf s ≡ replicaOf t → s ≡ t
-laid-once s t a b e = a .same ∙ (ap stored e ∙ sym (b .same))
 
 -- ---- fresh
 

@@ -4,7 +4,7 @@ use Prim.Native.Nat.{ℕ, zero, suc, _+_, _*_, _<_, _≤_, _-_}
 use native.Mathlib.Nat.{not-suc-le-zero, le-of-suc-le-suc}
 use native.Mathlib.Omega.{arith}
 use mathlib.Core.List.{List, [], _∷_, _++_, map, append-assoc}
-use lib.ListN.{length, take, drop, replicate, length-append, length-take, length-drop, length-replicate, replicate-append-replicate, take-append-drop}
+use lib.ListN.{length, getD, set, take, drop, replicate, length-append, length-take, length-drop, length-replicate, replicate-append-replicate, take-append-drop}
 use Rattle.rules.specs.Bytes.{part, join}
 use Rattle.rules.proofs.ByteLaws.{Sized, length-join, join-append}
 use Rattle.octets.specs.Splice.{splice}
@@ -20,6 +20,24 @@ unfolding modify
 length-modify i f [] = refl
 length-modify zero f (x ∷ xs) = refl
 length-modify (suc i) f (x ∷ xs) = ap suc (length-modify i f xs)
+
+pub modify-id : {A : Type 0} (i : ℕ) (xs : List A) → modify i (λ x. x) xs ≡ xs
+unfolding modify
+modify-id i [] = refl
+modify-id zero (y ∷ ys) = refl
+modify-id (suc i) (y ∷ ys) = ap (λ (l : List _). y ∷ l) (modify-id i ys)
+
+pub set-modify : {A : Type 0} (xs : List A) (i : ℕ) (x : A) → set xs i x ≡ modify i (λ _. x) xs
+unfolding modify
+set-modify [] i x = refl
+set-modify (y ∷ ys) zero x = refl
+set-modify (y ∷ ys) (suc i) x = ap (λ (l : List _). y ∷ l) (set-modify ys i x)
+
+pub modify-same : {A : Type 0} (i : ℕ) (f g : A → A) (xs : List A) (x : A) → f (getD xs i x) ≡ g (getD xs i x) → modify i f xs ≡ modify i g xs
+unfolding modify
+modify-same i f g [] x e = refl
+modify-same zero f g (y ∷ ys) x e = ap (λ (a : _). a ∷ ys) e
+modify-same (suc i) f g (y ∷ ys) x e = ap (λ (l : List _). y ∷ l) (modify-same i f g ys x e)
 
 pub length-insert : {A : Type 0} (i : ℕ) (x : A) (xs : List A) → i ≤ length xs → length (insertAt i x xs) ≡ suc (length xs)
 unfolding insertAt

@@ -12,8 +12,8 @@ use Rattle.rules.specs.Order.{orderRev}
 use Rattle.rules.specs.Replica.{Id, Node, Tree, Document, Replica, revisionsHeld}
 use Rattle.rules.specs.Room.{documentsMost, revisionsMost, idMost}
 use Rattle.rules.specs.Write.{learn}
+use Rattle.tree.specs.declared.table.Body.{Body}
 use Rattle.tree.specs.Table.{insertAt}
-use Rattle.store.specs.declared.read.Body.{Body}
 use Rattle.store.specs.Storage.{stored, replicaOf, Laid}
 use Rattle.store.specs.Documents.{documentsOf, documentAt, IsBody}
 
@@ -66,10 +66,6 @@ pub record CanInsertRow (s : List ℕ) (d : ℕ) (b : Body) (i : ℕ) : Type 0 w
   pub body : IsBody s d b
   pub place : i ≤ b .rows
   pub room : revisionsHeld (documentsOf s) < revisionsMost
-
-pub record CanSetRow (s : List ℕ) (d : ℕ) (b : Body) (i : ℕ) : Type 0 where
-  pub body : IsBody s d b
-  pub place : i < b .rows
 
 -- room is asked for only where the revision is new
 pub record CanLearn (s : List ℕ) (d : ℕ) (b : Body) (v : Revision × Node) : Type 0 where

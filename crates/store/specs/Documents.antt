@@ -1,16 +1,16 @@
 -- The documents in a buffer, by their index, and what a caller shows to name one.
 use mathlib.Core.Path.{_≡_}
-use mathlib.Core.List.{List, [], _∷_}
-use Prim.Native.Nat.{ℕ, suc, _+_, _*_, _<_, _≤_}
+use mathlib.Core.List.{List, []}
+use Prim.Native.Nat.{ℕ, _+_, _*_, _<_, _≤_}
 use lib.ListN.{length, getD, take}
-use Rattle.rules.specs.Image.{headSize, entrySize, rowSize}
-use Rattle.rules.specs.Map.{Map, byOrder}
+use Rattle.rules.specs.Layout.{rowSize}
+use Rattle.rules.specs.Map.{Map}
 use Rattle.rules.specs.Order.{orderBytes}
 use Rattle.rules.specs.Replica.{Id, Tree, Document, treeOf, revisionsHeld}
+use Rattle.tree.specs.declared.table.Body.{Body}
 use Rattle.tree.specs.declared.table.Found.{Found}
 use Rattle.tree.specs.declared.table.Found.the-variants.{At, Gap}
-use Rattle.tree.specs.Table.{treeAt}
-use Rattle.store.specs.declared.read.Body.{Body}
+use Rattle.tree.specs.Table.{body, treeIn, Within, place}
 use Rattle.store.specs.Storage.{rowsPlace, replicaOf, Laid}
 
 abbrev pub documentsOf : List ℕ → Map Id Document
@@ -27,19 +27,15 @@ documentAt ds d = getD ds d noDocument
 unfoldable pub firstRow : Map Id Document → ℕ → ℕ
 firstRow ds d = revisionsHeld (take d ds)
 
--- the bytes of the buffer where entry d and row k begin
-abbrev pub entryPlace : ℕ → ℕ
-entryPlace d = headSize + entrySize * d
-
+-- where row k begins
 abbrev pub rowPlace : ℕ → ℕ
 rowPlace k = rowsPlace + rowSize * k
 
 -- ---- searching
 
--- the first id that is not below i, counted from k: it, or the gap before it
-unfoldable pub placeOfId : ℕ → Id → Map Id Document → Found
-placeOfId k i [] = Gap k
-placeOfId k i (d ∷ ds) = byOrder (orderBytes i (d .0)) (Gap k) (At k) (placeOfId (suc k) i ds)
+-- where the document i is, or the gap where it would go
+abbrev pub placeOfId : ℕ → Id → Map Id Document → Found
+placeOfId n i ds = place orderBytes n i ds
 
 -- ---- contracts
 
@@ -56,13 +52,18 @@ pub record IsBody (s : List ℕ) (d : ℕ) (b : Body) : Type 0 where
 
 -- of a document that is absent: no rows
 abbrev pub bodyAt : Map Id Document → Found → Body
-bodyAt ds (At d) = record { base = rowPlace (firstRow ds d); rows = length (documentAt ds d .1 .tree) }
-bodyAt ds (Gap d) = record { base = rowsPlace; rows = 0 }
+bodyAt ds (At d) = body (rowPlace (firstRow ds d)) (length (documentAt ds d .1 .tree))
+bodyAt ds (Gap d) = body rowsPlace 0
+
+-- a document of s was looked for
+abbrev pub Looked : List ℕ → Found → Type 0
+Looked s (At d) = HasDocument s d
+Looked s (Gap d) = Laid s
 
 -- the rows there are the tree t
 pub record Shows (s : List ℕ) (b : Body) (t : Tree) : Type 0 where
-  pub within : b .base + b .rows * rowSize ≤ length s
-  pub tree : treeAt (b .base) (b .rows) s ≡ t
+  pub within : Within b s
+  pub tree : treeIn b s ≡ t
 
 pub record IsBodyOf (s : List ℕ) (i : Id) (b : Body) : Type 0 where
   pub is : b ≡ bodyAt (documentsOf s) (placeOfId 0 i (documentsOf s))

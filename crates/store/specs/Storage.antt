@@ -5,11 +5,12 @@ use Prim.Native.Nat.{ℕ, _+_, _-_, _*_, _≤_}
 use lib.ListN.{length, drop, replicate}
 use Rattle.rules.specs.declared.Revision.{Revision}
 use Rattle.rules.specs.Bytes.{be, pieces, join}
-use Rattle.rules.specs.Image.{Row, headSize, entrySize, rowSize, entryBytes, rowBytes, headOf, rowOf, entriesOf, deal, documentsIn}
+use Rattle.rules.specs.Image.{entriesOf, deal, documentsIn}
+use Rattle.rules.specs.Layout.{Row, headSize, entrySize, rowSize, headOf, rowOf}
 use Rattle.rules.specs.Map.{Map}
 use Rattle.rules.specs.Replica.{Id, Node, Document, Replica, IsReplica, revisionsHeld}
-use Rattle.rules.specs.Room.{documentsMost, revisionsMost, idMost, last}
-use Rattle.tree.specs.Rows.{FitsRow}
+use Rattle.rules.specs.Room.{documentsMost, revisionsMost, idMost, seqMost}
+use Rattle.tree.specs.Rows.{storedRow, nodeHeld, FitsRow}
 
 -- ---- the regions: a head, room for every entry, room for every row
 
@@ -32,13 +33,21 @@ storeSize = rowsPlace + rowsRoom
 unfoldable pub filled : ℕ → List ℕ → List ℕ
 filled n s = s ++ replicate (n - length s) 0
 
--- an image's head without edition and total: documents d, revisions r and the update sequence
+-- the head: documents d, revisions r and the update sequence. Edition and total are zero.
 unfoldable pub storedHead : ℕ → ℕ → ℕ → List ℕ
 storedHead d r q = be 2 0 ++ (be 2 d ++ (be 2 r ++ (be 2 0 ++ (be 4 q ++ be 4 0))))
 
--- the entries of an image, each with place 0: places are worked out by saving only
+-- a document's entry: its id filled with zeros, how many rows it has and its sequence. The place of the
+-- first row is zero, since only saving works it out.
+unfoldable pub storedEntry : Id × Document → List ℕ
+storedEntry d =
+    length (d .0)
+    ∷ (d .0
+    ++ (replicate (idMost - length (d .0)) 0
+    ++ (0 ∷ (be 2 (length (d .1 .tree)) ++ (be 4 (d .1 .seq .0) ++ be 4 0)))))
+
 unfoldable pub storedEntries : Map Id Document → List (List ℕ)
-storedEntries ds = map (entryBytes 0) ds
+storedEntries ds = map storedEntry ds
 
 -- the rows of all documents, one document after the other
 unfoldable pub rowsIn : Map Id Document → List (Revision × Node)
@@ -46,7 +55,7 @@ rowsIn [] = []
 rowsIn (d ∷ ds) = d .1 .tree ++ rowsIn ds
 
 unfoldable pub storedRows : Map Id Document → List (List ℕ)
-storedRows ds = map rowBytes (rowsIn ds)
+storedRows ds = map storedRow (rowsIn ds)
 
 unfoldable pub stored : Replica → List ℕ
 stored r =
@@ -61,7 +70,7 @@ rowsHeld s = map rowOf (pieces (headOf s .revisions) rowSize (drop rowsPlace s))
 unfoldable pub replicaOf : List ℕ → Replica
 replicaOf s = record {
   seq = record { 0 = headOf s .seq };
-  documents = documentsIn (entriesOf s) (deal (entriesOf s) (rowsHeld s));
+  documents = documentsIn nodeHeld (entriesOf s) (deal (entriesOf s) (rowsHeld s));
 }
 
 -- ---- which replicas can be read back
@@ -72,7 +81,7 @@ All P (x ∷ xs) = P x × All P xs
 
 pub record FitsDocument (d : Id × Document) : Type 0 where
   pub id : length (d .0) ≤ idMost
-  pub seq : d .1 .seq .0 ≤ last
+  pub seq : d .1 .seq .0 ≤ seqMost
   pub rows : All FitsRow (d .1 .tree)
 
 -- what a write passes through: not a replica yet, but with every field in its range
@@ -80,7 +89,7 @@ pub record Storable (r : Replica) : Type 0 where
   pub documents : All FitsDocument (r .documents)
   pub documents-most : length (r .documents) ≤ documentsMost
   pub revisions-most : revisionsHeld (r .documents) ≤ revisionsMost
-  pub seq-most : r .seq .0 ≤ last
+  pub seq-most : r .seq .0 ≤ seqMost
 
 -- ---- buffers
 

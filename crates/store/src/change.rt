@@ -1,43 +1,41 @@
 // Changes of a replica in a buffer. Each leaves the exact bytes of the changed replica.
-use crate::ROWS;
-use crate::SIZE;
-use crate::read::Body;
 use crate::read::documents_held;
-use crate::read::entry_place;
 use crate::read::revisions_held;
-use octets::number::put2;
-use octets::number::put4;
+use layout::ENTRY;
+use layout::ID_IN;
+use layout::ROW;
+use layout::ROWS;
+use layout::SIZE;
+use layout::entry::entry_place;
+use layout::entry::put_own;
+use layout::entry::put_rows;
+use layout::head::put_documents;
+use layout::head::put_revisions;
+use layout::head::put_sequence;
 use octets::run::clear;
 use octets::run::copy_in;
 use octets::run::move_up;
-use rules::COUNT_IN;
-use rules::DOCUMENTS_AT;
-use rules::ENTRY;
-use rules::OWN_IN;
-use rules::REVISIONS_AT;
-use rules::ROW;
-use rules::SEQUENCE_AT;
 use rules::Seq;
 use tree::row::Kind;
 use tree::row::Row;
+use tree::row::put_row;
+use tree::table::Body;
 use tree::table::Found;
 use tree::table::find;
 use tree::table::insert_row;
 use tree::table::row_at;
-use tree::table::set_row;
 ghost use mathlib.Core.Path.{_≡_};
 ghost use Prim.Native.Nat.{ℕ, _+_, _*_, _<_, _≤_};
 ghost use mathlib.Core.Option.{some};
-ghost use lib.ListN.{length, set};
-ghost use Rattle.rules.specs.Image.{entryBytes};
+ghost use lib.ListN.{length};
 ghost use Rattle.rules.specs.Replica.{fresh};
 ghost use Rattle.rules.specs.Room.{idMost};
 ghost use Rattle.rules.specs.Write.{keeps, learn};
 ghost use Rattle.tree.specs.Rows.{contentOf, meaning};
 ghost use Rattle.tree.specs.Table.{insertAt};
-ghost use Rattle.store.specs.Storage.{storeSize, replicaOf, stored, Laid};
+ghost use Rattle.store.specs.Storage.{storeSize, storedEntry, replicaOf, stored, Laid};
 ghost use Rattle.store.specs.Documents.{HasDocument};
-ghost use Rattle.store.specs.Change.{blank, withDocument, withSeq, withTree, Holds, CanAddDocument, CanInsertRow, CanSetRow, CanLearn, Learnt};
+ghost use Rattle.store.specs.Change.{blank, withDocument, withSeq, withTree, Holds, CanAddDocument, CanInsertRow, CanLearn, Learnt};
 
 // Makes the buffer a fresh replica, whatever it held.
 pub fn make_fresh(b: &mut [u8])
@@ -52,18 +50,18 @@ pub fn set_sequences(b: &mut [u8], d: usize, q: Seq)
     requires { ⌜ HasDocument (now b) d ⌝ }
     ensures { λ _. ⌜ Holds (withSeq d q (replicaOf (now (b .entry)))) (now (b .exit)) ⌝ }
 {
-    put4(b, entry_place(d) + OWN_IN, q.0);
-    put4(b, SEQUENCE_AT, q.0);
+    put_own(b, entry_place(d), q);
+    put_sequence(b, q);
 }
 
 // The entry of a document that has no revisions yet.
 fn blank_entry(id: &[u8]) -> [u8; ENTRY]
     requires { ⌜ length (now id) ≤ idMost ⌝ }
-    ensures { λ r. ⌜ r ≡ entryBytes 0 (blank (now (id .entry))) ⌝ }
+    ensures { λ r. ⌜ r ≡ storedEntry (blank (now (id .entry))) ⌝ }
 {
     let mut t = [0u8; ENTRY];
     t[0] = id.len() as u8;
-    copy_in(&mut t, 1, id);
+    copy_in(&mut t, ID_IN, id);
     t
 }
 
@@ -77,7 +75,7 @@ pub fn add_document(b: &mut [u8], at: usize, id: &[u8])
     move_up(b, p, (n - at) * ENTRY, ENTRY);
     let t = blank_entry(id);
     copy_in(b, p, &t);
-    put2(b, DOCUMENTS_AT, n + 1);
+    put_documents(b, n + 1);
 }
 
 // Puts a row in at place i of document d, whose rows stand at `body`.
@@ -85,22 +83,10 @@ fn insert_row_in(b: &mut [u8], d: usize, body: Body, i: usize, row: Row)
     requires { ⌜ CanInsertRow (now b) d body i ⌝ }
     ensures { λ _. ⌜ Holds (withTree d (insertAt i (meaning row)) (replicaOf (now (b .entry)))) (now (b .exit)) ⌝ }
 {
-    let base = body.base;
-    let rows = body.rows;
     let n = revisions_held(b);
-    let first = (base - ROWS) / ROW;
-    insert_row(b, base, n - first, i, row);
-    put2(b, entry_place(d) + COUNT_IN, rows + 1);
-    put2(b, REVISIONS_AT, n + 1);
-}
-
-// Puts a row in the place of row i of document d, whose rows stand at `body`.
-fn set_row_in(b: &mut [u8], d: usize, body: Body, i: usize, row: Row)
-    requires { ⌜ CanSetRow (now b) d body i ⌝ }
-    ensures { λ _. ⌜ Holds (withTree d (λ t. set t i (meaning row)) (replicaOf (now (b .entry)))) (now (b .exit)) ⌝ }
-{
-    let base = body.base;
-    set_row(b, base, i, row);
+    insert_row(b, body.base + i * ROW, ROWS + n * ROW, row);
+    put_rows(b, entry_place(d), body.rows + 1);
+    put_revisions(b, n + 1);
 }
 
 fn kept(given: Kind, held: Kind) -> Kind
@@ -145,20 +131,18 @@ pub fn learn_row(b: &mut [u8], d: usize, body: Body, row: Row) -> Body
     requires { ⌜ CanLearn (now b) d body (meaning row) ⌝ }
     ensures { λ r. ⌜ Learnt (now (b .entry)) d (meaning row) r (now (b .exit)) ⌝ }
 {
-    let base = body.base;
-    let rows = body.rows;
     let rev = row.rev;
-    match find(b, base, rows, rev) {
+    match find(b, body, rev) {
         Found::At(i) => {
-            let held = row_at(b, base, i);
-            set_row_in(b, d, body, i, merged(held, row));
+            let held = row_at(b, body, i);
+            put_row(b, body.base + i * ROW, merged(held, row));
             body
         }
         Found::Gap(i) => {
             insert_row_in(b, d, body, i, row);
             Body {
-                base,
-                rows: rows + 1,
+                base: body.base,
+                rows: body.rows + 1,
             }
         }
     }

@@ -1,60 +1,56 @@
 // What a replica in a buffer holds.
-use crate::ROWS;
-use octets::number::get2;
-use octets::number::get4;
+use layout::ROW;
+use layout::ROWS;
+use layout::entry::entry_place;
+use layout::entry::id;
+use layout::entry::own;
+use layout::entry::rows;
+use layout::head::documents;
+use layout::head::revisions;
+use layout::head::sequence;
 use octets::order::order_bytes;
-use rules::COUNT_IN;
-use rules::DOCUMENTS_AT;
-use rules::ENTRY;
-use rules::HEAD;
-use rules::OWN_IN;
+use rules::ID_MOST;
 use rules::Order;
-use rules::REVISIONS_AT;
-use rules::ROW;
-use rules::SEQUENCE_AT;
 use rules::Seq;
+use tree::table::Body;
 use tree::table::Found;
 ghost use mathlib.Core.Path.{_≡_};
 ghost use Prim.Native.Nat.{ℕ, _+_, _*_, _<_, _≤_};
 ghost use lib.ListN.{length};
 ghost use Rattle.rules.specs.Replica.{revisionsHeld};
-ghost use Rattle.rules.specs.Room.{documentsMost};
+ghost use Rattle.rules.specs.Write.{badId};
 ghost use Rattle.store.specs.Storage.{replicaOf, Laid};
-ghost use Rattle.store.specs.Documents.{documentsOf, documentAt, firstRow, entryPlace, placeOfId, HasDocument, IsBody, IsBodyOf};
+ghost use Rattle.store.specs.Documents.{documentsOf, documentAt, firstRow, placeOfId, bodyAt, HasDocument, Looked, IsBody, IsBodyOf};
 
-// The rows of one document: where they begin, and how many they are.
-pub struct Body {
-    pub base: usize,
-    pub rows: usize,
+// Refusal 1.
+pub fn bad_id(id: &[u8]) -> bool
+    ensures { λ r. ⌜ r ≡ badId (now (id .entry)) ⌝ }
+{
+    if id.len() == 0 {
+        return true;
+    }
+    ID_MOST < id.len()
 }
 
 pub fn documents_held(b: &[u8]) -> usize
     requires { ⌜ Laid (now b) ⌝ }
     ensures { λ r. ⌜ r ≡ length (documentsOf (now (b .entry))) ⌝ }
 {
-    get2(b, DOCUMENTS_AT)
+    documents(b)
 }
 
 pub fn revisions_held(b: &[u8]) -> usize
     requires { ⌜ Laid (now b) ⌝ }
     ensures { λ r. ⌜ r ≡ revisionsHeld (documentsOf (now (b .entry))) ⌝ }
 {
-    get2(b, REVISIONS_AT)
+    revisions(b)
 }
 
 pub fn update_sequence(b: &[u8]) -> Seq
     requires { ⌜ Laid (now b) ⌝ }
     ensures { λ r. ⌜ r ≡ replicaOf (now (b .entry)) .seq ⌝ }
 {
-    Seq(get4(b, SEQUENCE_AT))
-}
-
-// Where the entry of document d begins.
-pub(crate) fn entry_place(d: usize) -> usize
-    requires { ⌜ d ≤ documentsMost ⌝ }
-    ensures { λ r. ⌜ r ≡ entryPlace d ⌝ }
-{
-    HEAD + ENTRY * d
+    sequence(b)
 }
 
 // The sequence of document d's last change.
@@ -62,7 +58,7 @@ pub fn own_sequence(b: &[u8], d: usize) -> Seq
     requires { ⌜ HasDocument (now b) d ⌝ }
     ensures { λ r. ⌜ r ≡ documentAt (documentsOf (now (b .entry))) d .1 .seq ⌝ }
 {
-    Seq(get4(b, entry_place(d) + OWN_IN))
+    own(b, entry_place(d))
 }
 
 // How many revisions document d has.
@@ -70,7 +66,7 @@ pub fn row_count(b: &[u8], d: usize) -> usize
     requires { ⌜ HasDocument (now b) d ⌝ }
     ensures { λ r. ⌜ r ≡ length (documentAt (documentsOf (now (b .entry))) d .1 .tree) ⌝ }
 {
-    get2(b, entry_place(d) + COUNT_IN)
+    rows(b, entry_place(d))
 }
 
 // The index of document d's first row.
@@ -92,10 +88,7 @@ pub fn id_of(b: &[u8], d: usize) -> &[u8]
     requires { ⌜ HasDocument (now b) d ⌝ }
     ensures { λ r. ⌜ now r ≡ documentAt (documentsOf (now (b .entry))) d .0 ⌝ }
 {
-    let p = entry_place(d);
-    let a = p + 1;
-    let e = a + (b[p] as usize);
-    &b[a..e]
+    id(b, entry_place(d))
 }
 
 // Where the document `id` is, or the gap where it would go.
@@ -134,16 +127,24 @@ pub fn body_of(b: &[u8], d: usize) -> Body
     }
 }
 
-// The rows of the document `id`, none where it is absent.
-pub fn body_of_id(b: &[u8], id: &[u8]) -> Body
-    requires { ⌜ Laid (now b) ⌝ }
-    ensures { λ r. ⌜ IsBodyOf (now (b .entry)) (now (id .entry)) r ⌝ }
+// The rows of a document that was looked for, none where it is absent.
+pub fn body_at(b: &[u8], found: Found) -> Body
+    requires { ⌜ Looked (now b) found ⌝ }
+    ensures { λ r. ⌜ r ≡ bodyAt (documentsOf (now (b .entry))) found ⌝ }
 {
-    match find_document(b, id) {
+    match found {
         Found::At(d) => body_of(b, d),
         Found::Gap(_) => Body {
             base: ROWS,
             rows: 0,
         },
     }
+}
+
+// The rows of the document `id`, none where it is absent.
+pub fn body_of_id(b: &[u8], id: &[u8]) -> Body
+    requires { ⌜ Laid (now b) ⌝ }
+    ensures { λ r. ⌜ IsBodyOf (now (b .entry)) (now (id .entry)) r ⌝ }
+{
+    body_at(b, find_document(b, id))
 }

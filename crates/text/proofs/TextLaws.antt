@@ -8,12 +8,17 @@ use native.Mathlib.Omega.{arith}
 use native.Mathlib.Numerals.{add-one}
 use lib.Dec.{eqb}
 use lib.ListN.{length, take, getD, set, length-append, length-take}
-use Rattle.octets.specs.Splice.{splice}
-use Rattle.octets.proofs.SpliceLaws.{splice-behind, splice-none, length-splice}
-use Rattle.text.specs.Text.{Put}
 use lib.Seq.{take-suc}
 use borrow.Author.Tests.{ne-eqb, eqb-true}
+use Rattle.rules.specs.Choice.{pick}
 use Rattle.rules.specs.Report.{digits, trim, decimal, hexDigit, hex}
+use Rattle.octets.specs.Splice.{splice}
+use Rattle.octets.proofs.SpliceLaws.{splice-behind, splice-none, length-splice}
+use Rattle.text.specs.Text.{decimalMost, Put}
+
+-- what a u32 holds
+abbrev Fits : ℕ → Type 0
+Fits v = v < 4294967296
 
 -- a number of at most n decimal digits
 Below : ℕ → ℕ → Type 0
@@ -64,13 +69,32 @@ trim-more (x ∷ y ∷ ys) c h = go (eqb x 48) refl (λ z. trim-more (y ∷ ys) 
     go true e ih (inr z) = rw e (ih z)
     go false e ih z = rw e refl
 
+length-digits : (n v : ℕ) → length (digits n v) ≡ n
+unfolding digits
+length-digits zero v = refl
+length-digits (suc n) v = rw (length-append (digits n (v / 10)) ((48 + v % 10) ∷ []), length-digits n (v / 10)) (omega arith)
+
+length-trim : (cs : List ℕ) → length (trim cs) ≤ length cs
+unfolding trim
+length-trim [] = omega arith
+length-trim (c ∷ []) = omega arith
+length-trim (c ∷ e ∷ cs) = go (eqb c 48) (length-trim (e ∷ cs))
+  where
+    go : (b : Bool) → length (trim (e ∷ cs)) ≤ length (e ∷ cs) → length (pick b (trim (e ∷ cs)) (c ∷ e ∷ cs)) ≤ length (c ∷ e ∷ cs)
+    go true h = omega arith
+    go false h = omega arith
+
+pub decimal-most : (v : ℕ) → length (decimal v) ≤ decimalMost
+unfolding decimal
+decimal-most v = omega (arith, length-trim (digits decimalMost v), length-digits decimalMost v)
+
 -- a number below ten is its digit
 pub decimal-digit : (v : ℕ) → v < 10 → decimal v ≡ (48 + v) ∷ []
 unfolding decimal digits trim
 decimal-digit v h = let e : v / 10 ≡ 0 = omega arith in let m : v % 10 ≡ v = omega arith in rw (e, m) refl
 
 -- any other is the decimal of a tenth of it, and then its last digit
-pub decimal-more : (v : ℕ) → 10 ≤ v → v < 4294967296 → decimal v ≡ decimal (v / 10) ++ ((48 + v % 10) ∷ [])
+pub decimal-more : (v : ℕ) → 10 ≤ v → Fits v → decimal v ≡ decimal (v / 10) ++ ((48 + v % 10) ∷ [])
 unfolding decimal digits trim
 decimal-more v h k =
     trim-more (digits 9 (v / 10)) (48 + v % 10) (digits-nonzero 9 (v / 10) (omega arith) below)
@@ -98,13 +122,15 @@ length-hex-take : (bs : List ℕ) (i : ℕ) → i ≤ length bs → length (hex 
 length-hex-take bs i h = length-hex (take i bs) ∙ simp length-take (omega arith)
 
 -- one turn of the loop that writes hex
-pub hex-step : (s₀ s bs : List ℕ) (at next i x y : ℕ) → i < length bs → next ≡ at + 2 * i → at + 2 * length bs ≤ length s₀
+pub hex-step : (s₀ bs : List ℕ) (at i : ℕ) {s : List ℕ} {next x y : ℕ} → i < length bs → next ≡ at + 2 * i → at + 2 * length bs ≤ length s₀
     → s ≡ splice s₀ at (hex (take i bs)) → x ≡ hexDigit (getD bs i 0 / 16) → y ≡ hexDigit (getD bs i 0 % 16)
     → set (set s next x) (next + 1) y ≡ splice s₀ at (hex (take (i + 1) bs))
-hex-step s₀ s bs at next i x y h n f e p q =
+hex-step s₀ bs at i {s} {next} {x} {y} h n f e p q =
     let l = length-hex-take bs i (omega arith) in
     let m : length (hex (take i bs) ++ (x ∷ [])) ≡ 2 * i + 1 = simp length-append (omega arith) in
-    rw (e, splice-behind s₀ at next x (hex (take i bs)) (omega arith) (omega arith), splice-behind s₀ at (next + 1) y (hex (take i bs) ++ (x ∷ [])) (omega arith) (omega arith), p, q)
+    let first = splice-behind s₀ at next x (hex (take i bs)) (omega arith) (omega arith) in
+    let second = splice-behind s₀ at (next + 1) y (hex (take i bs) ++ (x ∷ [])) (omega arith) (omega arith) in
+    rw (e, first, second, p, q)
     (ap (splice s₀ at) (sym (hex-take bs i h)))
 
 -- ---- the digits as they are written
@@ -112,27 +138,32 @@ hex-step s₀ s bs at next i x y h n f e p q =
 pub length-digit : (v : ℕ) → v < 10 → length (decimal v) ≡ 1
 length-digit v h = rw (decimal-digit v h) refl
 
-pub length-more : (v : ℕ) → 10 ≤ v → v < 4294967296 → length (decimal v) ≡ length (decimal (v / 10)) + 1
+pub length-more : (v : ℕ) → 10 ≤ v → Fits v → length (decimal v) ≡ length (decimal (v / 10)) + 1
 length-more v h k = rw (decimal-more v h k) (simp length-append (omega arith))
 
-pub put-digit : (s : List ℕ) (at v : ℕ) → v < 10 → at < length s → Put (decimal v) s at (at + 1) (set s at (48 + v))
-put-digit s at v h k = record {
-  is = ap (λ (l : List ℕ). set l at (48 + v)) (sym (splice-none s at)) ∙ (splice-behind s at at (48 + v) [] (omega arith) k ∙ ap (splice s at) (sym (decimal-digit v h)));
+pub put-digit : {s : List ℕ} {at v : ℕ} → v < 10 → at < length s → Put (decimal v) s at (at + 1) (set s at (48 + v))
+put-digit {s} {at} {v} h k = record {
+  is =
+      ap (λ (l : List ℕ). set l at (48 + v)) (sym (splice-none s at))
+      ∙ (splice-behind s at at (48 + v) [] (omega arith) k ∙ ap (splice s at) (sym (decimal-digit v h)));
   ends = rw (decimal-digit v h) refl;
 }
 
-pub put-last : (s s′ : List ℕ) (at n v : ℕ) → 10 ≤ v → v < 4294967296 → at + length (decimal v) ≤ length s → Put (decimal (v / 10)) s at n s′
-    → Put (decimal v) s at (n + 1) (set s′ n (48 + v % 10))
-put-last s s′ at n v h k f p =
-    let l = length-more v h k in
-    let e = p .ends in
-    record {
-      is = ap (λ (u : List ℕ). set u n (48 + v % 10)) (p .is) ∙ (splice-behind s at n (48 + v % 10) (decimal (v / 10)) e (omega arith) ∙ ap (splice s at) (sym (decimal-more v h k)));
-      ends = omega arith;
-    }
+module _ {s s′ : List ℕ} {at n v : ℕ} (h : 10 ≤ v) (k : Fits v) (f : at + length (decimal v) ≤ length s) (p : Put (decimal (v / 10)) s at n s′) where
+  pub put-last : Put (decimal v) s at (n + 1) (set s′ n (48 + v % 10))
+  put-last =
+      let l = length-more v h k in
+      let e = p .ends in
+      record {
+        is =
+            ap (λ (u : List ℕ). set u n (48 + v % 10)) (p .is)
+            ∙ (splice-behind s at n (48 + v % 10) (decimal (v / 10)) e (omega arith) ∙ ap (splice s at) (sym (decimal-more v h k)));
+        ends = omega arith;
+      }
 
-pub in-last : (s s′ : List ℕ) (at n v : ℕ) → 10 ≤ v → v < 4294967296 → at + length (decimal v) ≤ length s → Put (decimal (v / 10)) s at n s′ → n < length s′
-in-last s s′ at n v h k f p =
-    let l = length-more v h k in
-    let e = p .ends in
-    let m : length s′ ≡ length s = ap length (p .is) ∙ length-splice s at (decimal (v / 10)) (omega arith) in omega arith
+  pub in-last : n < length s′
+  in-last =
+      let l = length-more v h k in
+      let e = p .ends in
+      let m : length s′ ≡ length s = ap length (p .is) ∙ length-splice s at (decimal (v / 10)) (omega arith) in
+      omega arith

@@ -5,6 +5,10 @@ use Prim.Native.Nat.{ℕ, _+_}
 use lib.ListN.{length}
 use Rattle.octets.specs.Splice.{splice}
 
+-- "Numbers are decimal": the most digits that one has
+abbrev pub decimalMost : ℕ
+decimalMost = 10
+
 -- the text now stands at `at`, and `next` is the place after it
 pub record Put (text : List ℕ) (before : List ℕ) (at next : ℕ) (after : List ℕ) : Type 0 where
   pub is : after ≡ splice before at text

@@ -2,10 +2,18 @@
 // Each function answers the place after what it wrote. It uses the crates rules and octets.
 use octets::run::copy_in;
 ghost use mathlib.Core.Path.{_≡_};
-ghost use Prim.Native.Nat.{ℕ, _+_, _*_, _<_, _≤_};
+ghost use Prim.Native.Nat.{_+_, _*_, _<_, _≤_};
 ghost use lib.ListN.{length};
 ghost use Rattle.rules.specs.Report.{decimal, hex, hexDigit};
 ghost use Rattle.text.specs.Text.{Put};
+
+// The most digits of a number.
+pub const DECIMAL: usize = 10;
+
+// The digit 0, and the letter a less ten, of which hex digits past 9 are counted.
+const ZERO: u8 = 48;
+
+const LETTERS: u8 = 87;
 
 // Writes a word.
 pub fn put_word(s: &mut [u8], at: usize, word: &[u8]) -> usize
@@ -22,11 +30,11 @@ pub fn put_decimal(s: &mut [u8], at: usize, v: u32) -> usize
     ensures { λ r. ⌜ Put (decimal v) (now (s .entry)) at r (now (s .exit)) ⌝ }
 {
     if v < 10 {
-        s[at] = (48 + v) as u8;
+        s[at] = ZERO + (v as u8);
         return at + 1;
     }
     let next = put_decimal(s, at, v / 10);
-    s[next] = (48 + v % 10) as u8;
+    s[next] = ZERO + ((v % 10) as u8);
     next + 1
 }
 
@@ -35,9 +43,9 @@ fn hex_digit(n: u8) -> u8
     ensures { λ r. ⌜ r ≡ hexDigit n ⌝ }
 {
     if n < 10 {
-        return 48 + n;
+        return ZERO + n;
     }
-    87 + n
+    LETTERS + n
 }
 
 // Writes bytes as hex, two digits each.

@@ -8,16 +8,18 @@ use lib.ListN.{length, set, length-append}
 use Rattle.rules.specs.declared.Content.{Content}
 use Rattle.rules.specs.declared.Revision.{Revision}
 use Rattle.rules.specs.Bytes.{be, pieces, join}
-use Rattle.rules.specs.Image.{rowSize}
+use Rattle.rules.specs.Layout.{hashIn, kindIn, rowSize}
 use Rattle.rules.specs.Read.{LeafOf, leafIn, leaves, leafBytes, contentKind, contentLabel}
 use Rattle.rules.specs.Replica.{Node, Tree}
+use Rattle.rules.specs.Room.{hashSize}
 use Rattle.rules.proofs.ByteLaws.{length-be}
 use Rattle.octets.specs.Splice.{splice}
 use Rattle.octets.proofs.SpliceLaws.{length-splice, splice-none, chain, stores}
 use Rattle.tree.specs.declared.row.Kind.the-variants.{Inner, Leaf}
+use Rattle.tree.specs.declared.table.Body.{Body}
 use Rattle.tree.specs.Rows.{contentOf, meaning, rowAt, nodeAt}
-use Rattle.tree.specs.Table.{treeAt}
-use Rattle.tree.specs.Leaf.{leafOf, leafSize}
+use Rattle.tree.specs.Table.{treeAt, treeIn, rowStart}
+use Rattle.tree.specs.Leaf.{leafOf, leafLabelIn, leafSize}
 use Rattle.tree.proofs.RowLaws.{row-at-means}
 use Rattle.tree.proofs.TableLaws.{tree-cut, tree-one, tree-last}
 
@@ -70,61 +72,62 @@ count-none base s = refl
 
 -- ---- from the end: the rows from i on, and row j before them
 
-abbrev pub rest : ℕ → ℕ → ℕ → List ℕ → Tree
-rest base n i s = treeAt (base + i * rowSize) (n - i) s
+abbrev pub rest : Body → ℕ → List ℕ → Tree
+rest b i s = treeAt (rowStart b i) (b .rows - i) s
 
-pub rest-none : (base n : ℕ) (s : List ℕ) → rest base n n s ≡ []
+pub rest-none : (b : Body) (s : List ℕ) → rest b (b .rows) s ≡ []
 unfolding treeAt pieces
-rest-none base n s = let e : n - n ≡ 0 = omega arith in rw e
+rest-none b s = let e : b .rows - b .rows ≡ 0 = omega arith in rw e
 
-pub rest-all : (base n i : ℕ) (s : List ℕ) → i ≡ 0 → rest base n i s ≡ treeAt base n s
-rest-all base n i s e =
-    let p : base + i * rowSize ≡ base = omega arith in
-    let q : n - i ≡ n = omega arith in
+pub rest-all : (b : Body) (i : ℕ) (s : List ℕ) → i ≡ 0 → rest b i s ≡ treeIn b s
+rest-all b i s e =
+    let p : rowStart b i ≡ b .base = omega arith in
+    let q : b .rows - i ≡ b .rows = omega arith in
     rw (p, q)
 
-module _ (base n i j : ℕ) (s : List ℕ) (e : i ≡ j + 1) (h : i ≤ n) where
+module _ (b : Body) (i j : ℕ) (s : List ℕ) (e : i ≡ j + 1) (h : i ≤ b .rows) where
   abbrev p : ℕ
-  p = base + j * rowSize
+  p = rowStart b j
 
-  pub rest-more : rest base n j s ≡ nodeAt p s ∷ rest base n i s
+  pub rest-more : rest b j s ≡ nodeAt p s ∷ rest b i s
   rest-more =
-      let a : n - j ≡ 1 + (n - i) = omega arith in
-      let b : p + 1 * rowSize ≡ base + i * rowSize = omega arith in
-      tree-cut p 1 (n - i) (n - j) s a ∙ rw (tree-one p s, b)
+      let n : b .rows - j ≡ 1 + (b .rows - i) = omega arith in
+      let q : p + 1 * rowSize ≡ rowStart b i = omega arith in
+      tree-cut p 1 (b .rows - i) (b .rows - j) s n ∙ rw (tree-one p s, q)
 
-  leaves-more : leaves (rest base n j s) ≡ leaves (rest base n i s) ++ leafIn (nodeAt p s)
+  leaves-more : leaves (rest b j s) ≡ leaves (rest b i s) ++ leafIn (nodeAt p s)
   unfolding leaves
   leaves-more = ap leaves rest-more
 
-  pub rest-inner : rowAt p s .kind ≡ Inner → leaves (rest base n j s) ≡ leaves (rest base n i s)
-  rest-inner k = leaves-more ∙ (ap (λ (l : List LeafOf). leaves (rest base n i s) ++ l) (leaf-none p s k) ∙ append-nil (leaves (rest base n i s)))
+  pub rest-inner : rowAt p s .kind ≡ Inner → leaves (rest b j s) ≡ leaves (rest b i s)
+  rest-inner k = leaves-more ∙ (ap (λ (l : List LeafOf). leaves (rest b i s) ++ l) (leaf-none p s k) ∙ append-nil (leaves (rest b i s)))
 
-  pub rest-leaf : (c : Content) → rowAt p s .kind ≡ Leaf c → leaves (rest base n j s) ≡ leaves (rest base n i s) ++ (leafOf (rowAt p s .rev) c ∷ [])
-  rest-leaf c k = leaves-more ∙ ap (λ (l : List LeafOf). leaves (rest base n i s) ++ l) (leaf-one p s c k)
+  pub rest-leaf : (c : Content) → rowAt p s .kind ≡ Leaf c → leaves (rest b j s) ≡ leaves (rest b i s) ++ (leafOf (rowAt p s .rev) c ∷ [])
+  rest-leaf c k = leaves-more ∙ ap (λ (l : List LeafOf). leaves (rest b i s) ++ l) (leaf-one p s c k)
 
-  pub rest-room : length (leaves (rest base n j s)) ≤ length (leaves (treeAt base n s))
+  rest-room : length (leaves (rest b j s)) ≤ length (leaves (treeIn b s))
   rest-room =
-      let a : treeAt base n s ≡ treeAt base j s ++ rest base n j s = tree-cut base j (n - j) n s (omega arith) in
-      let b : leaves (treeAt base n s) ≡ leaves (rest base n j s) ++ leaves (treeAt base j s) = ap leaves a ∙ leaves-append (treeAt base j s) (rest base n j s) in
-      omega (arith, simp length-append at (ap length b))
+      let t : Tree = treeAt (b .base) j s in
+      let cut : treeIn b s ≡ t ++ rest b j s = tree-cut (b .base) j (b .rows - j) (b .rows) s (omega arith) in
+      let all : leaves (treeIn b s) ≡ leaves (rest b j s) ++ leaves t = ap leaves cut ∙ leaves-append t (rest b j s) in
+      omega (arith, simp length-append at (ap length all))
 
 -- ---- their bytes
 
-pub leaf-bytes-more : (l : List LeafOf) (a : LeafOf) → join (map leafBytes (l ++ (a ∷ []))) ≡ join (map leafBytes l) ++ leafBytes a
+leaf-bytes-more : (l : List LeafOf) (a : LeafOf) → join (map leafBytes (l ++ (a ∷ []))) ≡ join (map leafBytes l) ++ leafBytes a
 unfolding join
 leaf-bytes-more [] a = append-nil (leafBytes a)
 leaf-bytes-more (b ∷ l) a =
     ap (λ (s : List ℕ). leafBytes b ++ s) (leaf-bytes-more l a) ∙ sym (append-assoc (leafBytes b) (join (map leafBytes l)) (leafBytes a))
 
 -- one more leaf behind those that are written
-pub leaf-behind : (out : List ℕ) (l m : List LeafOf) (a : LeafOf) (at : ℕ) → m ≡ l ++ (a ∷ []) → length (join (map leafBytes l)) ≡ at → at + length (leafBytes a) ≤ length out
+leaf-behind : (out : List ℕ) (l m : List LeafOf) (a : LeafOf) (at : ℕ) → m ≡ l ++ (a ∷ []) → length (join (map leafBytes l)) ≡ at → at + length (leafBytes a) ≤ length out
     → splice (splice out 0 (join (map leafBytes l))) at (leafBytes a) ≡ splice out 0 (join (map leafBytes m))
 leaf-behind out l m a at e n h =
     chain out (join (map leafBytes l)) (leafBytes a) 0 at (zero-add (length (join (map leafBytes l))) ∙ n) h
     ∙ ap (splice out 0) (sym (leaf-bytes-more l a) ∙ ap (λ (x : List LeafOf). join (map leafBytes x)) (sym e))
 
-pub leaf-size-more : (l m : List LeafOf) (a : LeafOf) → m ≡ l ++ (a ∷ []) → length (leafBytes a) ≡ leafSize → length (join (map leafBytes l)) ≡ length l * leafSize
+leaf-size-more : (l m : List LeafOf) (a : LeafOf) → m ≡ l ++ (a ∷ []) → length (leafBytes a) ≡ leafSize → length (join (map leafBytes l)) ≡ length l * leafSize
     → length (join (map leafBytes m)) ≡ length m * leafSize
 leaf-size-more l m a e z n =
     let b : length (join (map leafBytes m)) ≡ length (join (map leafBytes l)) + length (leafBytes a)
@@ -132,13 +135,13 @@ leaf-size-more l m a e z n =
     let c : length m ≡ length l + 1 = ap length e ∙ length-append l (a ∷ []) in
     omega arith
 
-pub length-leaf : (v : Revision) (c : Content) → length (v .hash) ≡ 16 → length (leafBytes (leafOf v c)) ≡ leafSize
+pub length-leaf : (v : Revision) (c : Content) → length (v .hash) ≡ hashSize → length (leafBytes (leafOf v c)) ≡ leafSize
 unfolding leafBytes
 length-leaf v c h = simp (length-append, length-be) (omega arith)
 
 -- the four runs that code writes for a leaf
-pub leaf-written : (s : List ℕ) (at : ℕ) (v : Revision) (c : Content) → length (v .hash) ≡ 16 → at + 29 ≤ length s
-    → splice (set (splice (splice s at (be 4 (v .number .0))) (at + 4) (v .hash)) (at + 20) (contentKind c)) (at + 21) (be 8 (contentLabel c))
+pub leaf-written : (s : List ℕ) (at : ℕ) (v : Revision) (c : Content) → length (v .hash) ≡ hashSize → at + leafSize ≤ length s
+    → splice (set (splice (splice s at (be 4 (v .number .0))) (at + hashIn) (v .hash)) (at + kindIn) (contentKind c)) (at + leafLabelIn) (be 8 (contentLabel c))
     ≡ splice s at (leafBytes (leafOf v c))
 unfolding leafBytes
 leaf-written s at v c q room =
@@ -148,13 +151,13 @@ leaf-written s at v c q room =
     let n : length N ≡ 4 = length-be 4 (v .number .0) in
     let l : length L ≡ 8 = length-be 8 (contentLabel c) in
     let s1 : List ℕ = splice s at N in
-    let s2 : List ℕ = splice s1 (at + 4) (v .hash) in
+    let s2 : List ℕ = splice s1 (at + hashIn) (v .hash) in
     let n1 : length s1 ≡ length s = length-splice s at N (omega arith) in
-    let n2 : length s2 ≡ length s = length-splice s1 (at + 4) (v .hash) (omega arith) ∙ n1 in
-    ap (λ (x : List ℕ). splice x (at + 21) L) (stores K s2 (at + 20) (omega arith))
-    ∙ (chain s2 K L (at + 20) (at + 21) (omega arith) (omega arith)
-    ∙ (chain s1 (v .hash) (K ++ L) (at + 4) (at + 20) (omega arith) (simp length-append (omega arith))
-    ∙ chain s N (v .hash ++ (K ++ L)) at (at + 4) (omega arith) (simp length-append (omega arith))))
+    let n2 : length s2 ≡ length s = length-splice s1 (at + hashIn) (v .hash) (omega arith) ∙ n1 in
+    ap (λ (x : List ℕ). splice x (at + leafLabelIn) L) (stores K s2 (at + kindIn) (omega arith))
+    ∙ (chain s2 K L (at + kindIn) (at + leafLabelIn) (omega arith) (omega arith)
+    ∙ (chain s1 (v .hash) (K ++ L) (at + hashIn) (at + kindIn) (omega arith) (simp length-append (omega arith))
+    ∙ chain s N (v .hash ++ (K ++ L)) at (at + hashIn) (omega arith) (simp length-append (omega arith))))
 
 -- ---- leaves that are written so far
 
@@ -163,10 +166,10 @@ pub record Written (l : List LeafOf) (before : List ℕ) (at : ℕ) (after : Lis
   pub size : length (join (map leafBytes l)) ≡ length l * leafSize
   pub is : after ≡ splice before 0 (join (map leafBytes l))
 
-pub written-none : (base n : ℕ) (s out : List ℕ) → Written (leaves (rest base n n s)) out 0 out
+pub written-none : (b : Body) (s out : List ℕ) → Written (leaves (rest b (b .rows) s)) out 0 out
 unfolding leaves join
-written-none base n s out =
-    let e : leaves (rest base n n s) ≡ [] = ap leaves (rest-none base n s) in
+written-none b s out =
+    let e : leaves (rest b (b .rows) s) ≡ [] = ap leaves (rest-none b s) in
     record {
       count = rw e (omega arith);
       size = rw e (omega arith);
@@ -176,8 +179,8 @@ written-none base n s out =
 pub written-same : (l m : List LeafOf) (before : List ℕ) (at : ℕ) (after : List ℕ) → m ≡ l → Written l before at after → Written m before at after
 written-same l m before at after e w = rw e w
 
-pub written-more : (l m : List LeafOf) (a : LeafOf) (before : List ℕ) (at : ℕ) (mid after : List ℕ) → m ≡ l ++ (a ∷ []) → length (leafBytes a) ≡ leafSize → at + 29 ≤ length before
-    → Written l before at mid → after ≡ splice mid at (leafBytes a) → Written m before (at + 29) after
+pub written-more : (l m : List LeafOf) (a : LeafOf) (before : List ℕ) (at : ℕ) (mid after : List ℕ) → m ≡ l ++ (a ∷ []) → length (leafBytes a) ≡ leafSize → at + leafSize ≤ length before
+    → Written l before at mid → after ≡ splice mid at (leafBytes a) → Written m before (at + leafSize) after
 written-more l m a before at mid after e z room w f = record {
   count = let c : length m ≡ length l + 1 = ap length e ∙ length-append l (a ∷ []) in let d = w .count in omega arith;
   size = leaf-size-more l m a e z (w .size);
@@ -185,10 +188,11 @@ written-more l m a before at mid after e z room w f = record {
 }
 
 -- there is room for the leaf in row j
-pub leaf-room : (base n i j : ℕ) (s out mid : List ℕ) (at : ℕ) (c : Content) (before : List ℕ) → i ≡ j + 1 → i ≤ n → rowAt (base + j * rowSize) s .kind ≡ Leaf c
-    → Written (leaves (rest base n i s)) before at mid → length (leaves (treeAt base n s)) * leafSize ≤ length out → at + 29 ≤ length out
-leaf-room base n i j s out mid at c before e h k w room =
-    let a = rest-room base n i j s e h in
-    let b = ap length (rest-leaf base n i j s e h c k) ∙ length-append (leaves (rest base n i s)) (leafOf (rowAt (base + j * rowSize) s .rev) c ∷ []) in
-    let d = w .count in
+pub leaf-room : (b : Body) (i j : ℕ) (s out : List ℕ) (at : ℕ) (c : Content) (before : List ℕ) → i ≡ j + 1 → i ≤ b .rows → rowAt (rowStart b j) s .kind ≡ Leaf c
+    → Written (leaves (rest b i s)) before at out → length (leaves (treeIn b s)) * leafSize ≤ length out → at + leafSize ≤ length out
+leaf-room b i j s out at c before e h k w room =
+    let most = rest-room b i j s e h in
+    let left = leaves (rest b i s) in
+    let more = ap length (rest-leaf b i j s e h c k) ∙ length-append left (leafOf (rowAt (rowStart b j) s .rev) c ∷ []) in
+    let count = w .count in
     omega arith

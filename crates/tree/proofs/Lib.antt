@@ -1,5 +1,6 @@
 -- Laws of rows and of tables of rows.
 pub mod RowLaws
+pub mod EditionLaws
 pub mod TableLaws
 pub mod PlaceLaws
 pub mod SearchLaws

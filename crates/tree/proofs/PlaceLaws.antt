@@ -1,4 +1,4 @@
--- Where a revision is found: `placeOf` agrees with a map's `find`, and says where a change goes. Assumes nothing.
+-- Where a key is found: `place` agrees with a map's `find`, and says where a change goes. Assumes nothing.
 use mathlib.Core.Path.{_≡_, refl, sym, ap}
 use mathlib.Core.List.{[], _∷_}
 use mathlib.Core.Option.{Option, none, some}
@@ -8,128 +8,101 @@ use lib.ListN.{length, getD, set}
 use Rattle.rules.specs.declared.Order.{Order}
 use Rattle.rules.specs.declared.Order.the-variants.{Less, Equal, Greater}
 use Rattle.rules.specs.declared.Revision.{Revision}
-use Rattle.rules.specs.Map.{byOrder, find, alter}
+use Rattle.rules.specs.Map.{Map, byOrder, find, alter}
 use Rattle.rules.specs.Order.{orderRev}
 use Rattle.rules.specs.Replica.{Node, Tree}
-use Rattle.rules.proofs.OrderLaws.{orderRev-same}
+use Rattle.rules.proofs.OrderLaws.{TotalOrder, revOrder}
+use Rattle.tree.specs.declared.table.Found.{Found}
 use Rattle.tree.specs.declared.table.Found.the-variants.{At, Gap}
-use Rattle.tree.specs.Table.{placeOf, insertAt}
+use Rattle.tree.specs.Table.{place, placeOf, insertAt}
 use Rattle.tree.proofs.TableLaws.{noRow}
 
--- ---- what a place says, counted from k
+-- the i-th has the key k: the map has what stands there, and a change at k sets it; x stands for one past the end
+pub record HasKey {K A : Type 0} (order : K → K → Order) (x : K × A) (i : ℕ) (k : K) (xs : Map K A) : Type 0 where
+  pub within : i < length xs
+  pub is : getD xs i x .0 ≡ k
+  pub found : find order k xs ≡ some (getD xs i x .1)
+  pub altered : (f : Option A → A) → alter order k f xs ≡ set xs i (k, f (some (getD xs i x .1)))
 
--- v is the m-th, which is counted as i
-record Hit (k i m : ℕ) (v : Revision) (t : Tree) : Type 0 where
-  count : i ≡ k + m
-  within : m < length t
-  is : getD t m noRow .0 ≡ v
-  found : find orderRev v t ≡ some (getD t m noRow .1)
-  altered : (f : Option Node → Node) → alter orderRev v f t ≡ set t m (v, f (some (getD t m noRow .1)))
+-- none has the key k: the map has nothing, and a change at k puts one in at i
+pub record HasGap {K A : Type 0} (order : K → K → Order) (i : ℕ) (k : K) (xs : Map K A) : Type 0 where
+  pub within : i ≤ length xs
+  pub found : find order k xs ≡ none
+  pub altered : (f : Option A → A) → alter order k f xs ≡ insertAt i (k, f none) xs
 
--- v is in the gap before the m-th
-record Miss (k i m : ℕ) (v : Revision) (t : Tree) : Type 0 where
-  count : i ≡ k + m
-  within : m ≤ length t
-  found : find orderRev v t ≡ none
-  altered : (f : Option Node → Node) → alter orderRev v f t ≡ insertAt m (v, f none) t
+module _ {K A : Type 0} (O : TotalOrder K) (x₀ : K × A) where
+  abbrev order : K → K → Order
+  order = O .cmp
 
-no : {A : Type 0} → _≡_ {A = ℕ} 0 1 → A
-no z = absurd (omega arith)
+  -- what a place says, counted from n
+  abbrev Says : ℕ → K → Map K A → Found → Type 0
+  Says n k xs (At i) = (m : ℕ) × (i ≡ n + m) × HasKey order x₀ m k xs
+  Says n k xs (Gap i) = (m : ℕ) × (i ≡ n + m) × HasGap order m k xs
 
-hit-first : (k i : ℕ) (v : Revision) (x : Revision × Node) (t : Tree) → orderRev v (x .0) ≡ Equal → i ≡ k → Hit k i 0 v (x ∷ t)
-unfolding find alter
-hit-first k i v x t o e = record {
-  count = omega arith;
-  within = omega arith;
-  is = sym (orderRev-same v (x .0) o);
-  found = rw o refl;
-  altered = λ f. rw o refl;
-}
+  later : (n : ℕ) (k : K) (x : K × A) (xs : Map K A) (p : Found) → order k (x .0) ≡ Greater → Says (suc n) k xs p → Says n k (x ∷ xs) p
+  unfolding find alter insertAt
+  later n k x xs (At i) o h = (
+    suc (h .0),
+    let e = h .1 in omega arith,
+    record {
+      within = let w = h .2 .within in omega arith;
+      is = h .2 .is;
+      found = rw o (h .2 .found);
+      altered = λ f. rw o (ap (λ (l : Map K A). x ∷ l) (h .2 .altered f));
+    },
+  )
+  later n k x xs (Gap i) o h = (
+    suc (h .0),
+    let e = h .1 in omega arith,
+    record {
+      within = let w = h .2 .within in omega arith;
+      found = rw o (h .2 .found);
+      altered = λ f. rw o (ap (λ (l : Map K A). x ∷ l) (h .2 .altered f));
+    },
+  )
 
-hit-later : (k i m : ℕ) (v : Revision) (x : Revision × Node) (t : Tree) → orderRev v (x .0) ≡ Greater → Hit (suc k) i m v t → Hit k i (suc m) v (x ∷ t)
-unfolding find alter
-hit-later k i m v x t o h = record {
-  count = let e = h .count in omega arith;
-  within = let e = h .within in omega arith;
-  is = h .is;
-  found = rw o (h .found);
-  altered = λ f. rw o (ap (λ (r : Tree). x ∷ r) (h .altered f));
-}
+  here : (n : ℕ) (k : K) (x : K × A) (xs : Map K A) → order k (x .0) ≡ Equal → Says n k (x ∷ xs) (At n)
+  unfolding find alter
+  here n k x xs o =
+      (0, omega arith, record { within = omega arith; is = sym (O .same k (x .0) o); found = rw o refl; altered = λ f. rw o refl })
 
-miss-first : (k i : ℕ) (v : Revision) (x : Revision × Node) (t : Tree) → orderRev v (x .0) ≡ Less → i ≡ k → Miss k i 0 v (x ∷ t)
-unfolding find alter insertAt
-miss-first k i v x t o e = record {
-  count = omega arith;
-  within = omega arith;
-  found = rw o refl;
-  altered = λ f. rw o refl;
-}
+  before : (n : ℕ) (k : K) (x : K × A) (xs : Map K A) → order k (x .0) ≡ Less → Says n k (x ∷ xs) (Gap n)
+  unfolding find alter insertAt
+  before n k x xs o = (0, omega arith, record { within = omega arith; found = rw o refl; altered = λ f. rw o refl })
 
-miss-later : (k i m : ℕ) (v : Revision) (x : Revision × Node) (t : Tree) → orderRev v (x .0) ≡ Greater → Miss (suc k) i m v t → Miss k i (suc m) v (x ∷ t)
-unfolding find alter insertAt
-miss-later k i m v x t o h = record {
-  count = let e = h .count in omega arith;
-  within = let e = h .within in omega arith;
-  found = rw o (h .found);
-  altered = λ f. rw o (ap (λ (r : Tree). x ∷ r) (h .altered f));
-}
+  says : (n : ℕ) (k : K) (xs : Map K A) → Says n k xs (place order n k xs)
+  unfolding place find alter insertAt
+  says n k [] = (0, omega arith, record { within = omega arith; found = refl; altered = λ f. refl })
+  says n k (x ∷ xs) = go (order k (x .0)) refl (says (suc n) k xs)
+    where
+      go : (o : Order) → order k (x .0) ≡ o → Says (suc n) k xs (place order (suc n) k xs)
+          → Says n k (x ∷ xs) (byOrder o (Gap n) (At n) (place order (suc n) k xs))
+      go Less o h = before n k x xs o
+      go Equal o h = here n k x xs o
+      go Greater o h = later n k x xs (place order (suc n) k xs) o h
 
-hit : (k i : ℕ) (v : Revision) (t : Tree) → placeOf k v t ≡ At i → (m : ℕ) × Hit k i m v t
-unfolding placeOf
-hit k i v [] e = no (cc)
-hit k i v (x ∷ t) e = go (orderRev v (x .0)) refl e (λ p. hit (suc k) i v t p)
-  where
-    go : (o : Order) → orderRev v (x .0) ≡ o → byOrder o (Gap k) (At k) (placeOf (suc k) v t) ≡ At i
-        → (placeOf (suc k) v t ≡ At i → (m : ℕ) × Hit (suc k) i m v t) → (m : ℕ) × Hit k i m v (x ∷ t)
-    go Less o p ih = no (cc)
-    go Equal o p ih = let q : k ≡ i = cc in (0, hit-first k i v x t o (sym q))
-    go Greater o p ih = let h = ih p in (suc (h .0), hit-later k i (h .0) v x t o (h .1))
+  pub has-key : (i : ℕ) (k : K) (xs : Map K A) → place order 0 k xs ≡ At i → HasKey order x₀ i k xs
+  has-key i k xs e =
+      let h : Says 0 k xs (At i) = rw e at (says 0 k xs) in
+      let q : h .0 ≡ i = let z = h .1 in omega arith in
+      rw q at (h .2)
 
-miss : (k i : ℕ) (v : Revision) (t : Tree) → placeOf k v t ≡ Gap i → (m : ℕ) × Miss k i m v t
-unfolding placeOf find alter insertAt
-miss k i v [] e =
-    let q : k ≡ i = cc in
-    (0, record { count = omega arith; within = omega arith; found = refl; altered = λ f. refl })
-miss k i v (x ∷ t) e = go (orderRev v (x .0)) refl e (λ p. miss (suc k) i v t p)
-  where
-    go : (o : Order) → orderRev v (x .0) ≡ o → byOrder o (Gap k) (At k) (placeOf (suc k) v t) ≡ Gap i
-        → (placeOf (suc k) v t ≡ Gap i → (m : ℕ) × Miss (suc k) i m v t) → (m : ℕ) × Miss k i m v (x ∷ t)
-    go Less o p ih = let q : k ≡ i = cc in (0, miss-first k i v x t o (sym q))
-    go Equal o p ih = no (cc)
-    go Greater o p ih = let h = ih p in (suc (h .0), miss-later k i (h .0) v x t o (h .1))
+  pub has-gap : (i : ℕ) (k : K) (xs : Map K A) → place order 0 k xs ≡ Gap i → HasGap order i k xs
+  has-gap i k xs e =
+      let h : Says 0 k xs (Gap i) = rw e at (says 0 k xs) in
+      let q : h .0 ≡ i = let z = h .1 in omega arith in
+      rw q at (h .2)
 
--- ---- what a place says
+-- ---- of a tree's revisions
 
--- v is row i: the map has what stands there, and a change at v sets it
-pub record Is (i : ℕ) (v : Revision) (t : Tree) : Type 0 where
-  pub within : i < length t
-  pub is : getD t i noRow .0 ≡ v
-  pub found : find orderRev v t ≡ some (getD t i noRow .1)
-  pub altered : (f : Option Node → Node) → alter orderRev v f t ≡ set t i (v, f (some (getD t i noRow .1)))
+abbrev pub Is : ℕ → Revision → Tree → Type 0
+Is i v t = HasKey orderRev noRow i v t
 
--- v is no row: the map has nothing, and a change at v puts a row in at i
-pub record IsNot (i : ℕ) (v : Revision) (t : Tree) : Type 0 where
-  pub within : i ≤ length t
-  pub found : find orderRev v t ≡ none
-  pub altered : (f : Option Node → Node) → alter orderRev v f t ≡ insertAt i (v, f none) t
+abbrev pub IsNot : ℕ → Revision → Tree → Type 0
+IsNot i v t = HasGap orderRev i v t
 
 pub place-at : (i : ℕ) (v : Revision) (t : Tree) → placeOf 0 v t ≡ At i → Is i v t
-place-at i v t e = go (hit 0 i v t e)
-  where
-    go : (m : ℕ) × Hit 0 i m v t → Is i v t
-    go h =
-        let q : h .0 ≡ i = let z = h .1 .count in omega arith in
-        record {
-          within = rw q at (h .1 .within);
-          is = rw q at (h .1 .is);
-          found = rw q at (h .1 .found);
-          altered = λ f. rw q at (h .1 .altered f);
-        }
+place-at i v t e = has-key revOrder noRow i v t e
 
 pub place-gap : (i : ℕ) (v : Revision) (t : Tree) → placeOf 0 v t ≡ Gap i → IsNot i v t
-place-gap i v t e = go (miss 0 i v t e)
-  where
-    go : (m : ℕ) × Miss 0 i m v t → IsNot i v t
-    go h =
-        let q : h .0 ≡ i = let z = h .1 .count in omega arith in
-        record { within = rw q at (h .1 .within); found = h .1 .found; altered = λ f. rw q at (h .1 .altered f) }
+place-gap i v t e = has-gap revOrder noRow i v t e

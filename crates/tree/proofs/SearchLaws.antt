@@ -9,14 +9,15 @@ use lib.ListN.{length, getD, take}
 use Rattle.rules.specs.declared.Order.the-variants.{Less, Equal, Greater}
 use Rattle.rules.specs.declared.Revision.{Revision}
 use Rattle.rules.specs.Bytes.{pieces}
-use Rattle.rules.specs.Image.{rowSize}
+use Rattle.rules.specs.Layout.{rowSize}
 use Rattle.rules.specs.Map.{Below, Ascending}
 use Rattle.rules.specs.Order.{orderRev}
 use Rattle.rules.specs.Replica.{Node, Tree}
 use Rattle.rules.proofs.OrderLaws.{revOrder, orderRev-same, turn-less}
+use Rattle.tree.specs.declared.table.Body.{Body}
 use Rattle.tree.specs.declared.table.Found.the-variants.{At, Gap}
 use Rattle.tree.specs.Rows.{nodeAt, revAt}
-use Rattle.tree.specs.Table.{treeAt, placeOf, Searchable}
+use Rattle.tree.specs.Table.{treeAt, body, treeIn, rowStart, place, placeOf, Searchable}
 use Rattle.tree.proofs.TableLaws.{noRow, length-tree, tree-row, tree-take, tree-last}
 
 -- ---- ascending rows, by index
@@ -60,14 +61,14 @@ pub Over : Tree → Revision → ℕ → Type 0
 Over t v j = (k : ℕ) → j ≤ k → k < length t → orderRev v (revIn t k) ≡ Less
 
 found-at : (m : ℕ) (v : Revision) (t : Tree) (j : ℕ) → Under t v j → j < length t → orderRev v (revIn t j) ≡ Equal → placeOf m v t ≡ At (m + j)
-unfolding placeOf Under
+unfolding place Under
 found-at m v [] j b l e = absurd (not-suc-le-zero l)
 found-at m v (x ∷ t) zero b l e = rw (e, add-zero m)
 found-at m v (x ∷ t) (suc j) b l e =
     rw (b 0 (omega arith)) (found-at (suc m) v t j (λ k h. b (suc k) (suc-le-suc h)) (le-of-suc-le-suc l) e ∙ rw (suc-add m j, add-suc m j))
 
 found-gap : (m : ℕ) (v : Revision) (t : Tree) (j : ℕ) → j ≤ length t → Under t v j → Over t v j → placeOf m v t ≡ Gap (m + j)
-unfolding placeOf Under Over
+unfolding place Under Over
 found-gap m v [] zero l b a = rw (add-zero m)
 found-gap m v [] (suc j) l b a = absurd (not-suc-le-zero l)
 found-gap m v (x ∷ t) zero l b a = rw (a 0 (omega arith) (omega arith), add-zero m)
@@ -92,7 +93,7 @@ module _ (t : Tree) (v : Revision) (j : ℕ) (a : Ascending orderRev t) (l : j <
       let q : v ≡ revIn t j = orderRev-same v (revIn t j) e in
       found-at 0 v t j (λ k h. rw q (turn-less revOrder (revIn t k) (revIn t j) (ascends t a k j h l))) l e ∙ rw (zero-add j)
 
-  pub under-next : orderRev v (revIn t j) ≡ Greater → Under t v (j + 1)
+  under-next : orderRev v (revIn t j) ≡ Greater → Under t v (j + 1)
   unfolding Under
   under-next e k h =
       let w : orderRev (revIn t j) v ≡ Less = revOrder .turn v (revIn t j) e in
@@ -100,57 +101,75 @@ module _ (t : Tree) (v : Revision) (j : ℕ) (a : Ascending orderRev t) (l : j <
       (λ (p : k < j). turn-less revOrder (revIn t k) v (revOrder .trans (revIn t k) (revIn t j) v (ascends t a k j p l) w))
       (eq-or-lt-of-le (omega arith))
 
-  pub over-from : orderRev v (revIn t j) ≡ Less → Over t v j
+  over-from : orderRev v (revIn t j) ≡ Less → Over t v j
   unfolding Over
   over-from e k h r =
       ⊎-elim (λ (p : j ≡ k). rw p at e) (λ (p : j < k). revOrder .trans v (revIn t j) (revIn t k) e (ascends t a j k p r)) (eq-or-lt-of-le h)
 
+-- row j of a body beside v
+module _ (b : Body) (v : Revision) (s : List ℕ) (able : Searchable b s) (j : ℕ) (l : j < b .rows) where
+  abbrev beside : Revision
+  beside = revAt (rowStart b j) s
+
+  in-tree : j < length (treeIn b s)
+  in-tree = rw (length-tree (b .base) (b .rows) s) l
+
+  row-is : revIn (treeIn b s) j ≡ beside
+  row-is = rev-in (b .base) (b .rows) j s l
+
+  pub found-row : orderRev v beside ≡ Equal → placeOf 0 v (treeIn b s) ≡ At j
+  found-row o = found-here (treeIn b s) v j (able .ascending) in-tree (rw row-is o)
+
+  pub under-row : orderRev v beside ≡ Greater → Under (treeIn b s) v (j + 1)
+  under-row o = under-next (treeIn b s) v j (able .ascending) in-tree (rw row-is o)
+
+  pub over-row : orderRev v beside ≡ Less → Over (treeIn b s) v j
+  over-row o = over-from (treeIn b s) v j (able .ascending) in-tree (rw row-is o)
+
 -- ---- from the end
 
 -- a row above v at the end changes nothing
-pub place-last : (k : ℕ) (v : Revision) (t : Tree) (x : Revision × Node) → orderRev v (x .0) ≡ Less → placeOf k v (t ++ (x ∷ [])) ≡ placeOf k v t
-unfolding placeOf
+place-last : (k : ℕ) (v : Revision) (t : Tree) (x : Revision × Node) → orderRev v (x .0) ≡ Less → placeOf k v (t ++ (x ∷ [])) ≡ placeOf k v t
+unfolding place
 place-last k v [] x e = rw e refl
 place-last k v (y ∷ t) x e = rw (place-last (suc k) v t x e)
 
+-- the first rows of a body can be searched as well
+pub search-part : (b : Body) (i : ℕ) (s : List ℕ) → Searchable b s → i ≤ b .rows → Searchable (body (b .base) i) s
+search-part b i s able h = record {
+  within = let w = able .within in omega arith;
+  ascending = rw (tree-take (b .base) i (b .rows) s h) at (ascending-take i (treeIn b s) (able .ascending));
+}
+
 pub place-none : (base n : ℕ) (v : Revision) (s : List ℕ) → n ≡ 0 → placeOf 0 v (treeAt base n s) ≡ Gap 0
-unfolding placeOf treeAt pieces
+unfolding place treeAt pieces
 place-none base n v s e = rw e
 
-module _ (base n : ℕ) (v : Revision) (s : List ℕ) (able : Searchable base n s) (some-row : 0 < n) where
+module _ (b : Body) (v : Revision) (s : List ℕ) (able : Searchable b s) (some-row : 0 < b .rows) where
   abbrev t : Tree
-  t = treeAt base n s
+  t = treeIn b s
 
   abbrev end : ℕ
-  end = n - 1
+  end = b .rows - 1
 
   abbrev beyond : Revision
-  beyond = revAt (base + end * rowSize) s
+  beyond = revAt (rowStart b end) s
 
-  in-tree : end < length t
-  in-tree = rw (length-tree base n s) (omega arith)
+  pub search-front : Searchable (body (b .base) end) s
+  search-front = search-part b end s able (omega arith)
 
-  last-is : revIn t end ≡ beyond
-  last-is = rev-in base n end s (omega arith)
-
-  pub search-front : Searchable base end s
-  search-front = record {
-    within = let w = able .within in omega arith;
-    ascending = rw (tree-take base end n s (omega arith)) at (ascending-take end t (able .ascending));
-  }
-
-  pub before-last : orderRev v beyond ≡ Less → placeOf 0 v (treeAt base end s) ≡ placeOf 0 v t
+  pub before-last : orderRev v beyond ≡ Less → placeOf 0 v (treeAt (b .base) end s) ≡ placeOf 0 v t
   unfolding revAt
   before-last o =
-      let e : end + 1 ≡ n = omega arith in
-      let c : treeAt base n s ≡ treeAt base end s ++ (nodeAt (base + end * rowSize) s ∷ []) = rw e at (tree-last base end s) in
-      rw c (sym (place-last 0 v (treeAt base end s) (nodeAt (base + end * rowSize) s) o))
+      let e : end + 1 ≡ b .rows = omega arith in
+      let c : t ≡ treeAt (b .base) end s ++ (nodeAt (rowStart b end) s ∷ []) = rw e at (tree-last (b .base) end s) in
+      rw c (sym (place-last 0 v (treeAt (b .base) end s) (nodeAt (rowStart b end) s) o))
 
   pub at-last : orderRev v beyond ≡ Equal → placeOf 0 v t ≡ At end
-  at-last o = found-here t v end (able .ascending) in-tree (rw last-is o)
+  at-last o = found-row b v s able end (omega arith) o
 
-  pub past-last : orderRev v beyond ≡ Greater → placeOf 0 v t ≡ Gap n
+  pub past-last : orderRev v beyond ≡ Greater → placeOf 0 v t ≡ Gap (b .rows)
   past-last o =
-      let e : end + 1 ≡ n = omega arith in
-      let l = length-tree base n s in
-      gap-between v t n (omega arith) (rw e at (under-next t v end (able .ascending) in-tree (rw last-is o))) (over-none t v n l)
+      let e : end + 1 ≡ b .rows = omega arith in
+      let l = length-tree (b .base) (b .rows) s in
+      gap-between v t (b .rows) (omega arith) (rw e at (under-row b v s able end (omega arith) o)) (over-none t v (b .rows) l)

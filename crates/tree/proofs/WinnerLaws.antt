@@ -1,35 +1,34 @@
 -- The winner of an ascending tree is its last live leaf, else its last leaf. Assumes nothing.
-use mathlib.Core.Path.{_≡_, refl, sym, ap, ap₂, _∙_, subst}
+use mathlib.Core.Path.{_≡_, refl, sym, ap, _∙_, subst}
 use mathlib.Core.Bool.{Bool, true, false}
 use mathlib.Core.List.{List, [], _∷_, _++_, append-nil}
 use mathlib.Core.Option.{Option, none, some}
-use Prim.Native.Nat.{ℕ, suc, _+_, _-_, _*_, _≤_, _<_}
+use Prim.Native.Nat.{ℕ, _+_, _-_, _≤_, _<_}
 use native.Mathlib.Omega.{arith}
-use lib.ListN.{length}
 use Rattle.rules.specs.declared.Content.{Content}
 use Rattle.rules.specs.declared.Content.the-variants.{Live, Deleted}
 use Rattle.rules.specs.declared.Order.the-variants.{Less, Greater}
 use Rattle.rules.specs.declared.Revision.{Revision}
 use Rattle.rules.specs.Choice.{pick, orElse, maybe}
-use Rattle.rules.specs.Image.{rowSize}
 use Rattle.rules.specs.Map.{Below, Ascending}
 use Rattle.rules.specs.Order.{orderRev, isLess}
 use Rattle.rules.specs.Read.{LeafOf, leafIn, leaves, orderLeaf, higher, highest, winner}
 use Rattle.rules.specs.Replica.{Node, Tree}
 use Rattle.rules.proofs.OrderLaws.{revOrder, orderN-self, less-orderN, turn-less}
 use Rattle.octets.proofs.ByteOrderLaws.{greater-orderN}
+use Rattle.tree.specs.declared.leaf.Last.{Last}
+use Rattle.tree.specs.declared.leaf.Last.the-variants.{Nobody, At}
 use Rattle.tree.specs.declared.leaf.Winner.{Winner}
-use Rattle.tree.specs.declared.leaf.Winner.the-variants.{Nobody, At}
 use Rattle.tree.specs.declared.row.Kind.{Kind}
 use Rattle.tree.specs.declared.row.Kind.the-variants.{Inner, Leaf}
-use Rattle.tree.specs.Rows.{contentOf, rowAt}
-use Rattle.tree.specs.Table.{treeAt, placeOf}
-use Rattle.tree.specs.Leaf.{atPlace, winnerPlace, keep}
-use Rattle.tree.proofs.TableLaws.{length-tree, tree-cut}
-use Rattle.tree.proofs.LeafLaws.{rest, rest-none, rest-all, rest-more, content-at}
-use Rattle.tree.proofs.SearchLaws.{revIn, found-here}
+use Rattle.tree.specs.declared.table.Body.{Body}
+use Rattle.tree.specs.Rows.{rowAt, revAt}
+use Rattle.tree.specs.Table.{treeAt, treeIn, rowStart}
+use Rattle.tree.specs.Leaf.{leafOf, lastSays, LastWithin, keep, winnerSays, winnerFor, IsWinner}
+use Rattle.tree.proofs.TableLaws.{tree-cut}
+use Rattle.tree.proofs.LeafLaws.{leaves-append, rev-of-row, rest, rest-none, rest-all, rest-inner, rest-leaf}
 
--- ---- the first leaf of a kind among leaves, and its row
+-- ---- the first leaf of a kind among leaves
 
 abbrev pub isLive : Content → Bool
 isLive (Live n) = true
@@ -38,7 +37,7 @@ isLive Deleted = false
 abbrev pub isAny : Content → Bool
 isAny c = true
 
-unfoldable firstWith : (Content → Bool) → List LeafOf → Option LeafOf
+unfoldable pub firstWith : (Content → Bool) → List LeafOf → Option LeafOf
 firstWith q [] = none
 firstWith q (a ∷ more) = pick (q (a .content)) (some a) (firstWith q more)
 
@@ -52,66 +51,8 @@ first-append q (a ∷ l) m = go (q (a .content)) (first-append q l m)
     go true h = refl
     go false h = h
 
-abbrev pub orAt : Winner → Winner → Winner
-orAt Nobody w = w
-orAt (At i) w = At i
-
-abbrev pub atIf : (Content → Bool) → ℕ → Option Content → Winner
-atIf q k none = Nobody
-atIf q k (some c) = pick (q c) (At k) Nobody
-
--- the last row, counted from k, whose content is of a kind
-unfoldable pub lastWith : (Content → Bool) → ℕ → Tree → Winner
-lastWith q k [] = Nobody
-lastWith q k (x ∷ t) = orAt (lastWith q (suc k) t) (atIf q k (x .1 .content))
-
-pub last-append : (q : Content → Bool) (k : ℕ) (t u : Tree) → lastWith q k (t ++ u) ≡ orAt (lastWith q (k + length t) u) (lastWith q k t)
-unfolding lastWith
-last-append q k [] u =
-    let e : k + 0 ≡ k = omega arith in
-    rw e (end (lastWith q k u))
-  where
-    end : (w : Winner) → w ≡ orAt w Nobody
-    end Nobody = refl
-    end (At i) = refl
-last-append q k (x ∷ t) u =
-    let e : suc k + length t ≡ k + suc (length t) = omega arith in
-    rw (last-append q (suc k) t u, e) (assoc (lastWith q (k + suc (length t)) u) (lastWith q (suc k) t) (atIf q k (x .1 .content)))
-  where
-    assoc : (a b c : Winner) → orAt (orAt a b) c ≡ orAt a (orAt b c)
-    assoc Nobody b c = refl
-    assoc (At i) b c = refl
-
--- a leaf and its row go together
-abbrev Marked : ℕ → Tree → Winner → Option LeafOf → Type 0
-Marked k t Nobody o = o ≡ none
-Marked k t (At i) o = (m : ℕ) × (i ≡ k + m) × (m < length t) × (maybe (revIn t m) (λ a. a .rev) o ≡ revIn t m) × (o ≡ none → ⊥)
-
-marked-more : (k : ℕ) (x : Revision × Node) (t : Tree) (w : Winner) (o p : Option LeafOf) (v : Winner) → Marked (suc k) t w o → (w ≡ Nobody → Marked k (x ∷ t) v p)
-    → Marked k (x ∷ t) (orAt w v) (orElse o p)
-marked-more k x t Nobody o p v h f = rw h (f refl)
-marked-more k x t (At i) none p v h f = absurd (h .4 refl)
-marked-more k x t (At i) (some a) p v h f = (suc (h .0), (let e = h .1 in omega arith), (let e = h .2 in omega arith), h .3, h .4)
-
 some-not-none : {A : Type 0} (a : A) → _≡_ {A = Option A} (some a) none → ⊥
 some-not-none a e = let z : _≡_ {A = ℕ} 0 1 = cc in omega arith
-
-marked-one : (q : Content → Bool) (k : ℕ) (x : Revision × Node) (t : Tree) (c : Option Content) → c ≡ x .1 .content
-    → Marked k (x ∷ t) (atIf q k c) (firstWith q (maybe [] (λ d. record { rev = x .0; content = d } ∷ []) c))
-unfolding firstWith
-marked-one q k x t none e = refl
-marked-one q k x t (some c) e = go (q c)
-  where
-    go : (b : Bool) → Marked k (x ∷ t) (pick b (At k) Nobody) (pick b (some (record { rev = x .0; content = c })) none)
-    go true = (0, omega arith, omega arith, refl, some-not-none _)
-    go false = refl
-
-marked : (q : Content → Bool) (k : ℕ) (t : Tree) → Marked k t (lastWith q k t) (firstWith q (leaves t))
-unfolding lastWith leaves firstWith
-marked q k [] = refl
-marked q k (x ∷ t) =
-    rw (first-append q (leaves t) (leafIn x))
-    (marked-more k x t (lastWith q (suc k) t) (firstWith q (leaves t)) (firstWith q (leafIn x)) (atIf q k (x .1 .content)) (marked q (suc k) t) (λ e. marked-one q k x t (x .1 .content) refl))
 
 -- ---- leaves of an ascending tree descend
 
@@ -253,83 +194,75 @@ highest-first (a ∷ l) d = rw (highest-first l (d .1)) (ap some (front a l (d .
     go false none = refl
     go false (some b) = refl
 
--- ---- the winner's row
-
--- the last live leaf's row, else the last leaf's
-unfoldable pub lastLeaf : ℕ → Tree → Winner
-lastLeaf k t = orAt (lastWith isLive k t) (lastWith isAny k t)
-
-module _ (t : Tree) (a : Ascending orderRev t) where
-  there : (m : ℕ) → m < length t → atPlace (placeOf 0 (revIn t m) t) ≡ At m
-  there m h = rw (found-here t (revIn t m) m a h (revOrder .self (revIn t m)))
-
-  placed : (i : ℕ) (b : LeafOf) → Marked 0 t (At i) (some b) → atPlace (placeOf 0 (b .rev) t) ≡ At i
-  placed i b h =
-      let e : i ≡ h .0 = let z = h .1 in omega arith in
-      rw (h .3, e) (there (h .0) (h .2))
-
-  by-any : (w : Winner) (o : Option LeafOf) → Marked 0 t w o → maybe Nobody (λ b. atPlace (placeOf 0 (b .rev) t)) o ≡ w
-  by-any Nobody o h = rw h refl
-  by-any (At i) none h = absurd (h .4 refl)
-  by-any (At i) (some b) h = placed i b h
-
-  by-live : (w : Winner) (o : Option LeafOf) → Marked 0 t w o
-      → maybe Nobody (λ b. atPlace (placeOf 0 (b .rev) t)) (orElse o (firstWith isAny (leaves t))) ≡ orAt w (lastWith isAny 0 t)
-  by-live Nobody o h = rw h (by-any (lastWith isAny 0 t) (firstWith isAny (leaves t)) (marked isAny 0 t))
-  by-live (At i) none h = absurd (h .4 refl)
-  by-live (At i) (some b) h = placed i b h
-
-  pub winner-last : winnerPlace t ≡ lastLeaf 0 t
-  unfolding winnerPlace winner lastLeaf
-  winner-last = rw (highest-first (leaves t) (descends t a)) (by-live (lastWith isLive 0 t) (firstWith isLive (leaves t)) (marked isLive 0 t))
+winner-first : (t : Tree) → Ascending orderRev t → winner t ≡ orElse (firstWith isLive (leaves t)) (firstWith isAny (leaves t))
+unfolding winner
+winner-first t a = highest-first (leaves t) (descends t a)
 
 -- ---- the rows from the end
 
-module _ (base n i j : ℕ) (s : List ℕ) (e : i ≡ j + 1) (h : i ≤ n) where
+pub first-none : (q : Content → Bool) (b : Body) (s : List ℕ) → firstWith q (leaves (rest b (b .rows) s)) ≡ none
+unfolding firstWith leaves
+first-none q b s = rw (rest-none b s)
+
+module _ (b : Body) (i j : ℕ) (s : List ℕ) (e : i ≡ j + 1) (h : i ≤ b .rows) where
+  abbrev left : ℕ → List LeafOf
+  left k = leaves (rest b k s)
+
   abbrev kind : Kind
-  kind = rowAt (base + j * rowSize) s .kind
+  kind = rowAt (rowStart b j) s .kind
 
-  last-more : (q : Content → Bool) → lastWith q j (rest base n j s) ≡ orAt (lastWith q i (rest base n i s)) (atIf q j (contentOf kind))
-  unfolding lastWith
-  last-more q =
-      let k : suc j ≡ i = omega arith in
-      rw (rest-more base n i j s e h, k, content-at (base + j * rowSize) s)
+  pub first-inner : (q : Content → Bool) → kind ≡ Inner → firstWith q (left j) ≡ firstWith q (left i)
+  first-inner q k = ap (firstWith q) (rest-inner b i j s e h k)
 
-  stays : (w : Winner) → orAt w Nobody ≡ w
-  stays Nobody = refl
-  stays (At m) = refl
+  first-leaf : (q : Content → Bool) (c : Content) → kind ≡ Leaf c
+      → firstWith q (left j) ≡ orElse (firstWith q (left i)) (pick (q c) (lastSays b s (At j) c) none)
+  unfolding firstWith revAt
+  first-leaf q c k =
+      ap (firstWith q) (rest-leaf b i j s e h c k)
+      ∙ (first-append q (left i) (leafOf (rowAt (rowStart b j) s .rev) c ∷ []) ∙ rw (rev-of-row (rowStart b j) s))
 
-  pub last-inner : (q : Content → Bool) → kind ≡ Inner → lastWith q j (rest base n j s) ≡ lastWith q i (rest base n i s)
-  last-inner q k = last-more q ∙ rw k (stays (lastWith q i (rest base n i s)))
+  -- past a deleted leaf none is live, and the first that was found stays
+  pub none-live-more : kind ≡ Leaf Deleted → firstWith isLive (left i) ≡ none → firstWith isLive (left j) ≡ none
+  none-live-more k z = first-leaf isLive Deleted k ∙ rw z
 
-  pub last-deleted : kind ≡ Leaf Deleted → lastWith isLive j (rest base n j s) ≡ lastWith isLive i (rest base n i s)
-  last-deleted k = last-more isLive ∙ rw k (stays (lastWith isLive i (rest base n i s)))
-
-  pub last-kept : kind ≡ Leaf Deleted → lastWith isAny j (rest base n j s) ≡ keep (lastWith isAny i (rest base n i s)) j
-  last-kept k = last-more isAny ∙ rw k (go (lastWith isAny i (rest base n i s)))
+  pub first-kept : (w : Last) → kind ≡ Leaf Deleted → lastSays b s w Deleted ≡ firstWith isAny (left i) → lastSays b s (keep w j) Deleted ≡ firstWith isAny (left j)
+  first-kept w k z = go w ∙ (ap (λ (o : Option LeafOf). orElse o (lastSays b s (At j) Deleted)) z ∙ sym (first-leaf isAny Deleted k))
     where
-      go : (w : Winner) → orAt w (At j) ≡ keep w j
+      go : (u : Last) → lastSays b s (keep u j) Deleted ≡ orElse (lastSays b s u Deleted) (lastSays b s (At j) Deleted)
       go Nobody = refl
       go (At m) = refl
 
   -- the first live leaf from the end wins
-  pub live-found : (m : ℕ) → Ascending orderRev (treeAt base n s) → lastWith isLive i (rest base n i s) ≡ Nobody → kind ≡ Leaf (Live m) → winnerPlace (treeAt base n s) ≡ At j
-  unfolding lastLeaf
-  live-found m a z k =
-      let c : treeAt base n s ≡ treeAt base j s ++ rest base n j s = tree-cut base j (n - j) n s (omega arith) in
-      let l : 0 + length (treeAt base j s) ≡ j = let y = length-tree base j s in omega arith in
-      let f : lastWith isLive j (rest base n j s) ≡ At j = last-more isLive ∙ rw (z, k) refl in
-      let g : lastWith isLive 0 (treeAt base n s) ≡ At j = ap (lastWith isLive 0) c ∙ (last-append isLive 0 (treeAt base j s) (rest base n j s) ∙ rw (l, f) refl) in
-      winner-last (treeAt base n s) a ∙ rw g refl
+  pub live-found : (c : Content) (m : ℕ) → Ascending orderRev (treeIn b s) → firstWith isLive (left i) ≡ none → kind ≡ Leaf c → c ≡ Live m
+      → lastSays b s (At j) c ≡ winner (treeIn b s)
+  live-found c m a z k l =
+      let t : Tree = treeIn b s in
+      let u : Tree = treeAt (b .base) j s in
+      let here : Option LeafOf = lastSays b s (At j) c in
+      let cut : t ≡ u ++ rest b j s = tree-cut (b .base) j (b .rows - j) (b .rows) s (omega arith) in
+      let f : firstWith isLive (left j) ≡ here = first-leaf isLive c k ∙ rw (z, l) in
+      let g : firstWith isLive (leaves t) ≡ here
+      = ap (λ (v : Tree). firstWith isLive (leaves v)) cut
+      ∙ (ap (firstWith isLive) (leaves-append u (rest b j s)) ∙ (first-append isLive (left j) (leaves u) ∙ rw f)) in
+      sym (winner-first t a ∙ rw g)
 
-pub last-none : (q : Content → Bool) (base n : ℕ) (s : List ℕ) → lastWith q n (rest base n n s) ≡ Nobody
-unfolding lastWith
-last-none q base n s = rw (rest-none base n s)
+pub kept-within : (b : Body) (w : Last) (i : ℕ) → LastWithin b w → i < b .rows → LastWithin b (keep w i)
+kept-within b Nobody i h k = k
+kept-within b (At j) i h k = h
 
--- with no live leaf, the last leaf wins
-pub none-live-left : (base n i : ℕ) (s : List ℕ) → i ≡ 0 → Ascending orderRev (treeAt base n s) → lastWith isLive i (rest base n i s) ≡ Nobody
-    → winnerPlace (treeAt base n s) ≡ lastWith isAny i (rest base n i s)
-unfolding lastLeaf
-none-live-left base n i s e a z =
-    let y : lastWith isLive 0 (treeAt base n s) ≡ Nobody = ap₂ (lastWith isLive) (sym e) (sym (rest-all base n i s e)) ∙ z in
-    winner-last (treeAt base n s) a ∙ (rw y (ap₂ (lastWith isAny) (sym e) (sym (rest-all base n i s e))))
+-- with no live leaf, the first that was found wins
+pub none-live-left : (b : Body) (i : ℕ) (s : List ℕ) (w : Last) → i ≡ 0 → Ascending orderRev (treeIn b s) → firstWith isLive (leaves (rest b i s)) ≡ none
+    → lastSays b s w Deleted ≡ firstWith isAny (leaves (rest b i s)) → lastSays b s w Deleted ≡ winner (treeIn b s)
+none-live-left b i s w e a y z =
+    let all : rest b i s ≡ treeIn b s = rest-all b i s e in
+    let none-live : firstWith isLive (leaves (treeIn b s)) ≡ none = rw all at y in
+    sym (winner-first (treeIn b s) a ∙ rw none-live (sym (rw all at z)))
+
+-- ---- the answer
+
+pub winner-said : (t : Tree) (w : Winner) → w ≡ winnerFor (winner t) → IsWinner t w
+winner-said t w e = record { is = ap winnerSays e ∙ go (winner t); exact = e }
+  where
+    go : (o : Option LeafOf) → winnerSays (winnerFor o) ≡ o
+    go none = refl
+    go (some a) = refl

@@ -1,5 +1,5 @@
-// Tree: one document's tree, stored as rows of 48 bytes in a slice that the caller lends.
-// A row's bytes are those of an image's row. It uses the crates rules and octets.
+// Tree: one document's tree, stored as rows in a slice that the caller lends.
+// It uses the crates rules, octets and layout.
 pub mod leaf;
 pub mod path;
 pub mod row;

@@ -1,26 +1,33 @@
-// A table of rows from `base` on in a slice: read, searched and changed.
+// A table of rows in a slice: read, searched and changed.
 use crate::row::Kind;
 use crate::row::Row;
 use crate::row::compare_at;
-use crate::row::kind_of;
+use crate::row::get_kind;
+use crate::row::get_rev;
+use crate::row::get_row;
 use crate::row::put_row;
-use crate::row::row_of;
-use octets::number::get4;
-use octets::number::get8;
-use octets::run::get_hash;
+use layout::ROW;
 use octets::run::move_up;
+use rules::HASH;
 use rules::Order;
 use rules::RevNumber;
 use rules::Revision;
 ghost use mathlib.Core.Path.{_≡_};
-ghost use Prim.Native.Nat.{ℕ, _+_, _*_, _<_, _≤_};
+ghost use Prim.Native.Nat.{ℕ, _+_, _≤_};
 ghost use lib.ListN.{length};
+ghost use Rattle.rules.specs.Layout.{rowSize};
 ghost use Rattle.rules.specs.Map.{find};
 ghost use Rattle.rules.specs.Order.{orderRev};
 ghost use Rattle.rules.specs.Replica.{revision};
 ghost use Rattle.rules.specs.Write.{isNone};
 ghost use Rattle.tree.specs.Rows.{rowAt, revAt};
-ghost use Rattle.tree.specs.Table.{treeAt, placeOf, Searchable, CanInsert, RowInserted, RowSet};
+ghost use Rattle.tree.specs.Table.{treeIn, rowStart, placeOf, Searchable, CanInsert, RowInserted};
+
+// A tree's rows: where the first begins, and how many follow each other.
+pub struct Body {
+    pub base: usize,
+    pub rows: usize,
+}
 
 // Where a revision is, or the gap where it would go.
 pub enum Found {
@@ -29,49 +36,39 @@ pub enum Found {
 }
 
 // Row i.
-pub fn row_at(s: &[u8], base: usize, i: usize) -> Row
-    requires { ⌜ base + i * 48 + 48 ≤ length (now s) ⌝ }
-    ensures { λ r. ⌜ r ≡ rowAt (base + i * 48) (now (s .entry)) ⌝ }
+pub fn row_at(s: &[u8], body: Body, i: usize) -> Row
+    requires { ⌜ rowStart body i + rowSize ≤ length (now s) ⌝ }
+    ensures { λ r. ⌜ r ≡ rowAt (rowStart body i) (now (s .entry)) ⌝ }
 {
-    let p = base + i * 48;
-    let e = p + 48;
-    row_of(&s[p..e])
+    get_row(s, body.base + i * ROW)
 }
 
 // Row i's revision.
-pub fn rev_at(s: &[u8], base: usize, i: usize) -> Revision
-    requires { ⌜ base + i * 48 + 48 ≤ length (now s) ⌝ }
-    ensures { λ r. ⌜ r ≡ revAt (base + i * 48) (now (s .entry)) ⌝ }
+pub fn rev_at(s: &[u8], body: Body, i: usize) -> Revision
+    requires { ⌜ rowStart body i + rowSize ≤ length (now s) ⌝ }
+    ensures { λ r. ⌜ r ≡ revAt (rowStart body i) (now (s .entry)) ⌝ }
 {
-    let p = base + i * 48;
-    let number = get4(s, p);
-    let hash = get_hash(s, p + 4);
-    Revision {
-        number: RevNumber(number),
-        hash,
-    }
+    get_rev(s, body.base + i * ROW)
 }
 
 // Row i's kind.
-pub fn kind_at(s: &[u8], base: usize, i: usize) -> Kind
-    requires { ⌜ base + i * 48 + 48 ≤ length (now s) ⌝ }
-    ensures { λ r. ⌜ r ≡ rowAt (base + i * 48) (now (s .entry)) .kind ⌝ }
+pub fn kind_at(s: &[u8], body: Body, i: usize) -> Kind
+    requires { ⌜ rowStart body i + rowSize ≤ length (now s) ⌝ }
+    ensures { λ r. ⌜ r ≡ rowAt (rowStart body i) (now (s .entry)) .kind ⌝ }
 {
-    let p = base + i * 48;
-    let label = get8(s, p + 40);
-    kind_of(s[p + 20], label)
+    get_kind(s, body.base + i * ROW)
 }
 
-// The first of n rows that is not below a number and hash: it, or the gap before it. By halves.
-fn search(s: &[u8], base: usize, n: usize, number: RevNumber, hash: [u8; 16]) -> Found
-    requires { ⌜ Searchable base n (now s) ⌝ }
-    ensures { λ r. ⌜ r ≡ placeOf 0 (revision (number .0) hash) (treeAt base n (now (s .entry))) ⌝ }
+// The first row that is not below a number and hash: it, or the gap before it. By halves.
+fn search(s: &[u8], body: Body, number: RevNumber, hash: [u8; HASH]) -> Found
+    requires { ⌜ Searchable body (now s) ⌝ }
+    ensures { λ r. ⌜ r ≡ placeOf 0 (revision (number .0) hash) (treeIn body (now (s .entry))) ⌝ }
 {
     let mut lo = 0;
-    let mut hi = n;
+    let mut hi = body.rows;
     while lo < hi {
         let mid = lo + (hi - lo) / 2;
-        match compare_at(number, hash, s, base + mid * 48) {
+        match compare_at(number, hash, s, body.base + mid * ROW) {
             Order::Less => {
                 hi = mid;
             }
@@ -86,57 +83,42 @@ fn search(s: &[u8], base: usize, n: usize, number: RevNumber, hash: [u8; 16]) ->
     Found::Gap(lo)
 }
 
-// The same. The last row is tried first, since a history mostly grows at its end.
-fn seek(s: &[u8], base: usize, n: usize, number: RevNumber, hash: [u8; 16]) -> Found
-    requires { ⌜ Searchable base n (now s) ⌝ }
-    ensures { λ r. ⌜ r ≡ placeOf 0 (revision (number .0) hash) (treeAt base n (now (s .entry))) ⌝ }
+// Where rev is. The last row is tried first, since a history mostly grows at its end.
+pub fn find(s: &[u8], body: Body, rev: Revision) -> Found
+    requires { ⌜ Searchable body (now s) ⌝ }
+    ensures { λ r. ⌜ r ≡ placeOf 0 rev (treeIn body (now (s .entry))) ⌝ }
 {
-    if n == 0 {
+    let rows = body.rows;
+    if rows == 0 {
         return Found::Gap(0);
     }
-    let last = n - 1;
-    match compare_at(number, hash, s, base + last * 48) {
-        Order::Less => search(s, base, last, number, hash),
+    let last = rows - 1;
+    let base = body.base;
+    let number = rev.number;
+    let hash = rev.hash;
+    match compare_at(number, hash, s, base + last * ROW) {
+        Order::Less => search(s, Body { base, rows: last }, number, hash),
         Order::Equal => Found::At(last),
-        Order::Greater => Found::Gap(n),
+        Order::Greater => Found::Gap(rows),
     }
 }
 
-// Where rev is among n rows.
-pub fn find(s: &[u8], base: usize, n: usize, rev: Revision) -> Found
-    requires { ⌜ Searchable base n (now s) ⌝ }
-    ensures { λ r. ⌜ r ≡ placeOf 0 rev (treeAt base n (now (s .entry))) ⌝ }
+// Whether rev is in no row.
+pub fn is_missing(s: &[u8], body: Body, rev: Revision) -> bool
+    requires { ⌜ Searchable body (now s) ⌝ }
+    ensures { λ r. ⌜ r ≡ isNone (find orderRev rev (treeIn body (now (s .entry)))) ⌝ }
 {
-    let number = rev.number;
-    let hash = rev.hash;
-    seek(s, base, n, number, hash)
-}
-
-// Whether rev is not among n rows.
-pub fn is_missing(s: &[u8], base: usize, n: usize, rev: Revision) -> bool
-    requires { ⌜ Searchable base n (now s) ⌝ }
-    ensures { λ r. ⌜ r ≡ isNone (find orderRev rev (treeAt base n (now (s .entry)))) ⌝ }
-{
-    match find(s, base, n, rev) {
+    match find(s, body, rev) {
         Found::At(_) => false,
         Found::Gap(_) => true,
     }
 }
 
-// Puts a row in at i among n rows.
-pub fn insert_row(s: &mut [u8], base: usize, n: usize, i: usize, row: Row)
-    requires { ⌜ CanInsert base n i (now s) ⌝ }
-    ensures { λ _. ⌜ RowInserted base n i row (now (s .entry)) (now (s .exit)) ⌝ }
+// Puts a row in at `at`: the bytes from there to `end` move up, and the row takes the gap.
+pub fn insert_row(s: &mut [u8], at: usize, end: usize, row: Row)
+    requires { ⌜ CanInsert at end (now s) ⌝ }
+    ensures { λ _. ⌜ RowInserted at end row (now (s .entry)) (now (s .exit)) ⌝ }
 {
-    let p = base + i * 48;
-    move_up(s, p, (n - i) * 48, 48);
-    put_row(s, p, row);
-}
-
-// Puts a row in the place of row i.
-pub fn set_row(s: &mut [u8], base: usize, i: usize, row: Row)
-    requires { ⌜ base + i * 48 + 48 ≤ length (now s) ⌝ }
-    ensures { λ _. ⌜ RowSet base i row (now (s .entry)) (now (s .exit)) ⌝ }
-{
-    put_row(s, base + i * 48, row);
+    move_up(s, at, end - at, ROW);
+    put_row(s, at, row);
 }

@@ -11,24 +11,24 @@ use Rattle.rules.specs.declared.Refusal.{Refusal}
 use Rattle.rules.specs.declared.Revision.{Revision}
 use Rattle.rules.specs.declared.Written.{Written}
 use Rattle.rules.specs.declared.Written.the-variants.{Accepted, Refused}
-use Rattle.rules.specs.Choice.{pick, firstThat}
+use Rattle.rules.specs.Choice.{pick, howMany, firstThat}
 use Rattle.rules.specs.Pull.{offers, pull}
 use Rattle.rules.specs.Replica.{Id, Node, Replica, IsReplica}
 use Rattle.rules.specs.Union.{In, Gives, given, held, both, IsUnion, SameButSeq, IsWrite, Within, writeAll, IsAccepted, AllAccepted, allFrom}
 use Rattle.rules.specs.Write.{Write, added, adds, writeRefusals, settle, write}
-use Rattle.union.specs.Said.{there, back, Agreed, answers, isRefused, howMany}
+use Rattle.union.specs.Said.{there, back, Agreed, answers, isRefused}
 use Rattle.union.proofs.Sets.{within-left}
 use Rattle.union.proofs.Unions.{alike, one-union, same-winner, union, union-alike, union-again, union-then}
 use Rattle.union.proofs.Held.{Own, closed-own, holds-own}
 use Rattle.union.proofs.Keeps.{write-keeps}
-use Rattle.union.proofs.WriteLeaves.{leaves}
+use Rattle.union.proofs.WriteLeft.{write-left}
 use Rattle.union.proofs.Offers.{offers-own, offers-range, own-offers}
 use Rattle.union.proofs.Pulls.{counts-each, pull-keeps, pull-writes}
 
 -- ---- writes that are all accepted
 
 -- an accepted write was refused by none of the conditions
-pub unrefused-if : (r : Replica) (w : Write) → IsAccepted (write r w .0) → firstThat (writeRefusals r w) ≡ none
+unrefused-if : (r : Replica) (w : Write) → IsAccepted (write r w .0) → firstThat (writeRefusals r w) ≡ none
 unfolding write
 unrefused-if r w = go (firstThat (writeRefusals r w))
   where
@@ -77,7 +77,7 @@ only r w i v c (inl a) = inl (a .0, a .1)
 only r w i v c (inr b) = inr (b .0, b .1)
 
 -- nothing was given
-pub union-none : (r : Replica) → IsReplica r → IsUnion r (both (held r) (given []))
+union-none : (r : Replica) → IsReplica r → IsUnion r (both (held r) (given []))
 union-none r k =
     union-alike r (held r) (both (held r) (given []))
     (alike (held r) (both (held r) (given [])) (within-left (held r) (given []))
@@ -88,13 +88,13 @@ union-none r k =
     }))
     (union r (Own r) (holds-own r k) (closed-own r k))
 
-pub accepted-union : (ws : List Write) → ((w : Write) → In w ws → IsWrite w) → (r : Replica) → IsReplica r → AllAccepted ws r
+accepted-union : (ws : List Write) → ((w : Write) → In w ws → IsWrite w) → (r : Replica) → IsReplica r → AllAccepted ws r
     → IsUnion (writeAll ws r) (both (held r) (given ws))
 unfolding writeAll
 accepted-union [] h r k a = union-none r k
 accepted-union (w ∷ ws) h r k a =
     let m = write r w .1 in
-    let u = leaves r w k (unrefused-if r w (a .0)) .union in
+    let u = write-left r w k (unrefused-if r w (a .0)) .union in
     let rest = accepted-union ws (λ v i. h v (inr i)) m (write-keeps r w k (h w (inl refl))) (a .1) in
     union-alike (writeAll ws m) (both (both (held r) (given (w ∷ []))) (given ws)) (both (held r) (given (w ∷ ws)))
     (alike (both (both (held r) (given (w ∷ []))) (given ws)) (both (held r) (given (w ∷ ws))) (first-in r w ws) (first-out r w ws))

@@ -144,7 +144,8 @@ module _ (e : Edit) (r s : Replica) (h : AlikeAt (e .id) r s) where
   same-write = rw (same-number, same-parent) refl
 
   same-edit-refusals : editRefusals r e ≡ editRefusals s e
-  unfolding editRefusals parentRule lastNumber alreadyKnown roomRefusals documentsFull revisionsFull sequenceSpent adds asWrite
+  unfolding editRefusals parentRule lastNumber alreadyKnown roomRefusals documentsFull revisionsFull sequenceSpent
+      adds asWrite
   same-edit-refusals = rw (same-number, same-parent, same-tree (e .id) r s h, h .document, h .seq, h .documents, h .revisions) refl
 
   pub edit-alike : IsReplica r → IsReplica s → IsEdit e → (edit r e .0 ≡ edit s e .0) × AlikeAt (e .id) (edit r e .1) (edit s e .1)

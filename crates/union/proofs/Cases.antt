@@ -75,7 +75,7 @@ edit-by r e P h f = go (firstThat (editRefusals r e)) refl
     go none q = f q
 
 -- a write that doesn't answer "changed" leaves what was held: one that is refused, and one that adds nothing
-pub write-stays : (r : Replica) (w : Write) → (write r w .0 ≡ Accepted Changed → ⊥) → write r w .1 ≡ r
+write-stays : (r : Replica) (w : Write) → (write r w .0 ≡ Accepted Changed → ⊥) → write r w .1 ≡ r
 unfolding write
 write-stays r w = go (firstThat (writeRefusals r w)) (adds r w)
   where

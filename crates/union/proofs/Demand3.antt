@@ -20,13 +20,13 @@ use Rattle.rules.specs.Read.{leaves, winner, documentsAfter, front, readChanges
 use Rattle.rules.specs.Replica.{Id, Document, Replica, fresh, documentOf, treeOf, IsReplica}
 use Rattle.rules.specs.Union.{In, given, held, both, IsUnion, SameButSeq, IsWrite, WellFormed, Compatible, Fits, Within, writeAll, AllAccepted, SeqSuffices, allFrom}
 use Rattle.rules.specs.Write.{Write, adds, writeRefusals, write}
-use Rattle.union.specs.Said.{IsEdit, Knows, Leaves, changeAbout, SameAnswers, AlikeAt, Descending, there, Agreed, total, leafCount, answers, CountsEach}
+use Rattle.union.specs.Said.{IsEdit, Knows, Left, changeAbout, SameAnswers, AlikeAt, Descending, there, Agreed, total, leafCount, answers, CountsEach}
 use Rattle.union.proofs.Cases as cases
 use Rattle.union.proofs.Orders as orders
 use Rattle.union.proofs.Frame as frame
 use Rattle.union.proofs.Keeps as keep
 use Rattle.union.proofs.Edits as edits
-use Rattle.union.proofs.WriteLeaves as one
+use Rattle.union.proofs.WriteLeft as one
 use Rattle.union.proofs.Pulls as pulls
 use Rattle.union.proofs.TwoWay as ways
 use Rattle.union.proofs.Accepted as sound
@@ -51,11 +51,11 @@ pull-keeps = pulls.pull-keeps
 -- ---- what one call leaves
 
 -- "what a write leaves is an exact union": said without running it, and it leaves one replica
-pub write-leaves : (r : Replica) (w : Write) → IsReplica r → firstThat (writeRefusals r w) ≡ none → Leaves r w (write r w .1)
-write-leaves = one.leaves
+pub write-left : (r : Replica) (w : Write) → IsReplica r → firstThat (writeRefusals r w) ≡ none → Left r w (write r w .1)
+write-left = one.write-left
 
-pub leaves-one : (r : Replica) (w : Write) (a b : Replica) → IsReplica a → IsReplica b → Leaves r w a → Leaves r w b → a ≡ b
-leaves-one = one.leaves-one
+pub left-one : (r : Replica) (w : Write) (a b : Replica) → IsReplica a → IsReplica b → Left r w a → Left r w b → a ≡ b
+left-one = one.left-one
 
 -- "Where nothing was added": the test that decides it says that all revisions and parents given are known
 pub adds-nothing : (r : Replica) (w : Write) → IsReplica r → firstThat (writeRefusals r w) ≡ none → (adds r w ≡ false) ↔ Knows r w

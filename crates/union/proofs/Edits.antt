@@ -9,7 +9,6 @@ use native.Mathlib.Omega.{arith}
 use lib.Dec.{eqb}
 use lib.ListN.{length}
 use borrow.Author.Tests.{le-ltb, eqb-false, not-false}
-use Rattle.rules.specs.declared.Edited.the-variants as edited
 use Rattle.rules.specs.declared.Outcome.the-variants.{Changed}
 use Rattle.rules.specs.declared.Revision.{Revision}
 use Rattle.rules.specs.declared.Written.the-variants.{Accepted}
@@ -18,19 +17,22 @@ use Rattle.rules.specs.Choice.{pick, maybe, any, firstThat}
 use Rattle.rules.specs.Edit.{Edit, contentIn, isLeaf, deletedWinner, parentOf, parentRule, newNumber, asWrite, alreadyKnown, lastNumber, editRefusals, edit}
 use Rattle.rules.specs.Map.{find, Ascending}
 use Rattle.rules.specs.Order.{orderRev, sameRev}
-use Rattle.rules.specs.Read.{LeafOf, winner, isDeletion}
+use Rattle.rules.specs.Read.{LeafOf, winner, isLive, isDeletion}
 use Rattle.rules.specs.Replica.{Hash, revision, Node, Tree, Replica, documentOf, treeOf, Known, IsRevision, IsReplica}
-use Rattle.rules.specs.Room.{hashSize, last}
+use Rattle.rules.specs.Room.{hashSize, numberMost}
 use Rattle.rules.specs.Union.{In, IsWrite}
-use Rattle.rules.specs.Write.{hashes, newestOf, along, gives, adds, isAddition, isNone, differ, otherParent, otherContent, agree, lowNumber, roomRefusals, write}
+use Rattle.rules.specs.Write.{badId, documentsFull, revisionsFull, sequenceSpent, hashes, newestOf, along, gives, adds}
+use Rattle.rules.specs.Write.{isAddition, isNone, differ, otherParent, otherContent, agree, lowNumber, roomRefusals, write}
 use Rattle.rules.proofs.MapLaws.{none≢some, some-inj}
+use Rattle.rules.proofs.GivenLaws.{adds-any}
+use Rattle.rules.proofs.ChoiceLaws.{none-holds}
 use Rattle.rules.proofs.ByteLaws.{Sized, bytes-append}
 use Rattle.union.specs.Said.{IsEdit}
 use Rattle.union.proofs.Lists.{any-none}
 use Rattle.union.proofs.Trees.{Entry}
 use Rattle.union.proofs.PathBytes.{hashes-join, path-good}
 use Rattle.union.proofs.Winners.{winner-top}
-use Rattle.union.proofs.Refusals.{Passed, none-first, unrefused}
+use Rattle.union.proofs.Refusals.{Passed, unrefused}
 use Rattle.union.proofs.Cases.{accepted, edit-by}
 use Rattle.union.proofs.Held.{ascending-own, sound-own}
 use Rattle.union.proofs.Keeps.{added-keeps}
@@ -64,7 +66,7 @@ unfolding parentRule parentOf
 parent-known r e k rule p q = go (e .parent) refl rule q
   where
     go : (o : Option Revision) → e .parent ≡ o
-        → maybe (not (isDeletion (e .content)) && (isNone (documentOf r (e .id)) || not (isNone (deletedWinner (treeOf r (e .id)))))) (isLeaf (treeOf r (e .id))) o ≡ true
+        → maybe (isLive (e .content) && (isNone (documentOf r (e .id)) || not (isNone (deletedWinner (treeOf r (e .id)))))) (isLeaf (treeOf r (e .id))) o ≡ true
         → maybe (deletedWinner (treeOf r (e .id))) some o ≡ some p → Known (treeOf r (e .id)) p
     go none f a b = deleted-known (treeOf r (e .id)) (ascending-own r k (e .id)) p b
     go (some v) f a b = leaf-known (treeOf r (e .id)) p (subst (λ (z : Revision). isLeaf (treeOf r (e .id)) z ≡ true) (some-inj b) a)
@@ -113,17 +115,32 @@ not-none (some a) e = absurd (true≢false e)
 or-true : (a b : Bool) → a ≡ true → (a || b) ≡ true
 or-true a b e = rw e refl
 
-number-room : (o : Option Revision) → maybe false (λ p. eqb (p .number .0) last) o ≡ false → ((p : Revision) → o ≡ some p → IsRevision p) → suc (numberOf o) ≤ last
+number-room : (o : Option Revision) → maybe false (λ p. eqb (p .number .0) numberMost) o ≡ false → ((p : Revision) → o ≡ some p → IsRevision p) → suc (numberOf o) ≤ numberMost
 number-room none e k = omega arith
-number-room (some p) e k = let h = k p refl .most in let t = eqb-false (p .number .0) last e in omega arith
+number-room (some p) e k = let h = k p refl .most in let t = eqb-false (p .number .0) numberMost e in omega arith
+
+-- 1, 9, 11, 10, 6, 7 and 8 do not refuse
+record EditPassed (r : Replica) (e : Edit) : Type 0 where
+  id-ok : badId (e .id) ≡ false
+  nine : parentRule r e ≡ true
+  eleven : lastNumber r e ≡ false
+  ten : alreadyKnown r e ≡ false
+  six : documentsFull r (e .id) ≡ false
+  seven : revisionsFull r (asWrite r e) ≡ false
+  eight : sequenceSpent r (asWrite r e) ≡ false
+
+edit-passes : (r : Replica) (e : Edit) → firstThat (editRefusals r e) ≡ none → EditPassed r e
+unfolding editRefusals roomRefusals asWrite
+edit-passes r e ok =
+    let (one, (nine, (eleven, (ten, (six, (seven, (eight, end))))))) = none-holds (editRefusals r e) ok in
+    record { id-ok = one; nine = not-false (parentRule r e) nine; eleven = eleven; ten = ten; six = six; seven = seven; eight = eight }
 
 module _ (r : Replica) (e : Edit) (k : IsReplica r) (q : IsEdit e) (ok : firstThat (editRefusals r e) ≡ none) where
-  rule : parentRule r e ≡ true
-  unfolding editRefusals
-  rule = not-false (parentRule r e) (none-first (editRefusals r e) ok .1 .0)
+  ep : EditPassed r e
+  ep = edit-passes r e ok
 
   known-parent : (p : Revision) → parentOf r e ≡ some p → IsRevision p
-  known-parent p f = let t = parent-known r e k rule p f in sound-own r k .revision (e .id) (p, t .0) (t .1)
+  known-parent p f = let t = parent-known r e k (ep .nine) p f in sound-own r k .revision (e .id) (p, t .0) (t .1)
 
   hashes-edit : hashes (asWrite r e) ≡ e .hash ∷ older (parentOf r e)
   unfolding asWrite
@@ -137,8 +154,8 @@ module _ (r : Replica) (e : Edit) (k : IsReplica r) (q : IsEdit e) (ok : firstTh
   gives-edit = ap (λ (hs : List Hash). along (suc (numberOf (parentOf r e))) hs (some (e .content))) hashes-edit
 
   new : find orderRev (newest .0) (treeOf r (e .id)) ≡ none
-  unfolding editRefusals alreadyKnown newNumber newest
-  new = not-none (find orderRev (newest .0) (treeOf r (e .id))) (none-first (editRefusals r e) ok .1 .1 .1 .0)
+  unfolding alreadyKnown newNumber newest
+  new = not-none (find orderRev (newest .0) (treeOf r (e .id))) (ep .ten)
 
   in-gives : (P : Entry → Type 0) → P newest → ((x : Entry) → x .1 .parent ≡ none → x .1 .content ≡ none → P x) → (x : Entry) → In x (gives (asWrite r e)) → P x
   in-gives P a b x m = go (rw gives-edit at m)
@@ -170,34 +187,32 @@ module _ (r : Replica) (e : Edit) (k : IsReplica r) (q : IsEdit e) (ok : firstTh
       (let t = older-few (parentOf r e) known-parent in
       le-ltb (suc (numberOf (parentOf r e))) (length (e .hash ∷ older (parentOf r e))) (let a = t .1 in omega arith))
 
-  pub edit-passed : Passed r (asWrite r e)
-  unfolding asWrite editRefusals roomRefusals
+  edit-passed : Passed r (asWrite r e)
+  unfolding asWrite
   edit-passed =
-      let t = none-first (editRefusals r e) ok in
-      let u = t .1 .1 .1 .1 in
       record {
         form = record {
-          id-ok = t .0;
+          id-ok = ep .id-ok;
           path-ok = path-good (asWrite r e) (e .hash ∷ older (parentOf r e)) (path-joined (e .hash) (parentOf r e)) (q .size, older-sized (parentOf r e) known-parent)
               (omega arith) (let a = older-few (parentOf r e) known-parent .0 in omega arith);
           number-ok = number-good;
         };
         four = any-none (otherParent (treeOf r (e .id))) (gives (asWrite r e)) no-other-parent;
         five = any-none (otherContent (treeOf r (e .id))) (gives (asWrite r e)) no-other-content;
-        six = u .0;
-        seven = u .1 .0;
-        eight = u .1 .1 .0;
+        six = ep .six;
+        seven = ep .seven;
+        eight = ep .eight;
       }
 
   pub edit-adds : adds r (asWrite r e) ≡ true
-  unfolding adds any isAddition asWrite
-  edit-adds = rw (gives-edit, new) refl
+  unfolding any isAddition asWrite
+  edit-adds = adds-any r (asWrite r e) ∙ rw (gives-edit, new) refl
 
-  pub edit-write : IsWrite (asWrite r e)
-  unfolding asWrite newNumber editRefusals lastNumber
+  edit-write : IsWrite (asWrite r e)
+  unfolding asWrite newNumber lastNumber
   edit-write = record {
     id = q .id;
-    number = number-room (parentOf r e) (none-first (editRefusals r e) ok .1 .1 .0) known-parent;
+    number = number-room (parentOf r e) (ep .eleven) known-parent;
     path = bytes-append (e .hash) (maybe [] (λ p. p .hash) (parentOf r e)) (q .hash) (older-bytes (parentOf r e) known-parent);
     content = q .content;
   }

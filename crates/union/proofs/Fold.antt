@@ -13,7 +13,7 @@ use Rattle.union.proofs.Refusals.{Well}
 use Rattle.union.proofs.Replicas.{Holds, holds-iff, step}
 
 -- one more write in front
-pub cons-to : (G : Givens) (w : Write) (ws : List Write) (i : Id) (x : Entry) → Plus (G ⊎w w) ws i x → Plus G (w ∷ ws) i x
+cons-to : (G : Givens) (w : Write) (ws : List Write) (i : Id) (x : Entry) → Plus (G ⊎w w) ws i x → Plus G (w ∷ ws) i x
 cons-to G w ws i x (inl m) = inl (m .0, inr (m .1), m .2, m .3)
 cons-to G w ws i x (inr (inl m)) = inl (w, inl refl, m .0, m .1)
 cons-to G w ws i x (inr (inr s)) = inr s

@@ -11,7 +11,7 @@ use borrow.Author.Tests.{ltb-false}
 use Rattle.rules.specs.declared.Content.{Content}
 use Rattle.rules.specs.declared.Order.the-variants.{Equal}
 use Rattle.rules.specs.declared.Revision.{Revision}
-use Rattle.rules.specs.Choice.{pick}
+use Rattle.rules.specs.Choice.{pick, howMany}
 use Rattle.rules.specs.Map.{Map, find}
 use Rattle.rules.specs.Order.{orderBytes, orderRev}
 use Rattle.rules.specs.Replica.{Id, Hash, revision, Node, Tree, Document, Replica, treeIn, documentOf, treeOf, revisionsHeld}
@@ -44,14 +44,14 @@ add-length t e = go (find orderRev (e .0) t) (sum-alter revOrder one (e .0) (lea
 
 -- another revision's being new does not change
 new-stays : (t : Tree) (e : Entry) (es : List Entry) → ((x : Entry) → In x es → orderRev (x .0) (e .0) ≡ Equal → ⊥) → countNew (add t e) es ≡ countNew t es
-unfolding countNew isNew
+unfolding countNew howMany isNew
 new-stays t e [] n = refl
 new-stays t e (x ∷ xs) n =
     ap₂ _+_ (ap newAt (find-other revOrder (x .0) (e .0) (learn (e .1)) t (n x (inl refl)))) (new-stays t e xs (λ y m. n y (inr m)))
 
 add-all-length : (hs : List Hash) (n : ℕ) (b : Option Content) (t : Tree) → length hs ≤ n
     → length (addAll (along n hs b) t) ≡ length t + countNew t (along n hs b)
-unfolding addAll along countNew isNew
+unfolding addAll along countNew howMany isNew
 add-all-length [] n b t h = omega arith
 add-all-length (y ∷ ys) zero b t h = absurd (omega arith)
 add-all-length (y ∷ ys) (suc n) b t h =

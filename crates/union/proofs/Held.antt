@@ -41,7 +41,7 @@ pub record Sound (G : Givens) : Type 0 where
 -- ---- a tree of a replica
 
 -- an ascending tree is the union of its own entries
-pub rep-own : (t : Tree) → Ascending orderRev t → Rep t (Has t)
+rep-own : (t : Tree) → Ascending orderRev t → Rep t (Has t)
 rep-own t s = record { ascending = s; at = λ r. go r (find orderRev r t) refl }
   where
     go : (r : Revision) (o : Option Node) → find orderRev r t ≡ o → At (find orderRev r t) (λ c. find orderRev r t ≡ some c)

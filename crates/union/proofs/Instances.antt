@@ -4,7 +4,7 @@ use mathlib.Core.Bool.{false, true≢false}
 use mathlib.Core.List.{List, [], _∷_, _++_}
 use mathlib.Core.Logic.{inl, inr, _↔_}
 use mathlib.Core.Option.{Option, none, some}
-use Prim.Native.Nat.{ℕ, zero, suc, _≤_}
+use Prim.Native.Nat.{ℕ, zero, suc, _+_, _≤_, _<_}
 use native.Mathlib.Omega.{arith}
 use lib.ListN.{length, replicate}
 use Rattle.rules.specs.declared.Content.the-variants.{Live, Deleted}
@@ -12,16 +12,17 @@ use Rattle.rules.specs.declared.Counts.{Counts}
 use Rattle.rules.specs.declared.Order.{Order}
 use Rattle.rules.specs.declared.Order.the-variants.{Less, Equal, Greater}
 use Rattle.rules.specs.Bytes.{join, pieces}
-use Rattle.rules.specs.Choice.{any, firstThat, maybe}
+use Rattle.rules.specs.Choice.{any, howMany, firstThat, maybe}
 use Rattle.rules.specs.Examples.{lot, on, short, shorts}
 use Rattle.rules.specs.Map.{byOrder, find, alter}
 use Rattle.rules.specs.Order.{orderN, orderBytes, orderRev, sameRev}
 use Rattle.rules.specs.Pull.{offer, offersOf, offersIn, offers, count, take-in, pull}
 use Rattle.rules.specs.Read.{leaves, orderLeaf, highest, winner, ancestry, pathOf, insertBySeq, documentsAfter}
 use Rattle.rules.specs.Replica.{Id, Tree, Document, Replica, fresh, treeIn, documentOf, treeOf, revisionsHeld, largestSeq, IsDocument, IsReplica}
-use Rattle.rules.specs.Room.{last}
+use Rattle.rules.specs.Room.{documentsMost, revisionsMost, seqMost}
 use Rattle.rules.specs.Union.{In, given, held, IsUnion, trees, SameButSeq, Within, writeAll, AllAccepted, allFrom}
-use Rattle.rules.specs.Write.{Write, hashes, along, gives, addAll, added, isNone, isNew, isAddition, adds, countNew, badId, badPath, lowNumber, otherParent, otherContent, documentsFull, revisionsFull, sequenceSpent, roomRefusals, writeRefusals, write}
+use Rattle.rules.specs.Write.{Write, hashes, along, gives, addAll, added, isNone, isNew, isNewParent, countNew, countParents, adds}
+use Rattle.rules.specs.Write.{badId, badPath, lowNumber, otherParent, otherContent, documentsFull, revisionsFull, sequenceSpent, roomRefusals, writeRefusals, write}
 use Rattle.union.specs.Said.{there, back, Agreed, answers}
 use Rattle.rules.proofs.OrderLaws.{bytesOrder}
 use Rattle.rules.proofs.MapLaws.{none≢some, some-inj}
@@ -39,17 +40,6 @@ one = on lot 3 (0x70 ∷ 0x61 ∷ []) (Live 1) ∷ []
 
 abbrev pub apart : List Write
 apart = on lot 3 (0x70 ∷ []) (Live 1) ∷ on lot 2 (0x61 ∷ []) (Live 2) ∷ []
-
-pub pair-ready : Ready (one ++ apart)
-unfolding unready malformed notBytes incompatible clashes clash idsOf tagged revisionsOf badId badPath lowNumber firstThat any hashes pieces join gives along orderBytes orderRev orderN sameRev
-pair-ready = ready (one ++ apart) refl
-
-pub pair-union : AllAccepted (one ++ apart) fresh × IsUnion (writeAll (one ++ apart) fresh) (given (one ++ apart))
-pair-union = union-of-writes (one ++ apart) (pair-ready .well-formed) (pair-ready .compatible) (pair-ready .fits)
-
--- "they never agree" where known leaves are skipped; here they do
-pub pair-agrees : Agreed (writeAll one fresh) (writeAll apart fresh)
-pair-agrees = two-way-made one apart (pair-ready .well-formed) (pair-ready .compatible) (pair-ready .fits)
 
 -- ---- two documents: a leaf that both hold, a deletion, a revision that has a child on one side
 -- only, and histories that arrive crossed
@@ -72,15 +62,50 @@ field =
     ∷ on lot 2 (0x4c ∷ 0x20 ∷ []) (Live 9)
     ∷ []
 
+-- ---- one write of 16 revisions
+
+abbrev pub long : Write
+long = on lot 16 (1 ∷ 2 ∷ 3 ∷ 4 ∷ 5 ∷ 6 ∷ 7 ∷ 8 ∷ 9 ∷ 10 ∷ 11 ∷ 12 ∷ 13 ∷ 14 ∷ 15 ∷ 16 ∷ []) (Live 1)
+
+-- ---- what is computed of them: nothing keeps them from being accepted in any order
+
+record Clear : Type 0 where
+  pair : unready (one ++ apart) ≡ false
+  offices : unready (office ++ field) ≡ false
+  long-alone : unready (long ∷ []) ≡ false
+
+clear : Clear
+unfolding unready malformed notBytes incompatible clashes clash idsOf tagged revisionsOf badId badPath lowNumber
+    firstThat any hashes pieces join gives along orderBytes orderRev orderN sameRev
+clear = record { pair = refl; offices = refl; long-alone = refl }
+
+pub pair-ready : Ready (one ++ apart)
+pair-ready = ready (one ++ apart) (clear .pair)
+
 pub offices-ready : Ready (office ++ field)
-unfolding unready malformed notBytes incompatible clashes clash idsOf tagged revisionsOf badId badPath lowNumber firstThat any hashes pieces join gives along orderBytes orderRev orderN sameRev
-offices-ready = ready (office ++ field) refl
+offices-ready = ready (office ++ field) (clear .offices)
+
+long-ready : Ready (long ∷ [])
+long-ready = ready (long ∷ []) (clear .long-alone)
+
+united : (ws : List Write) → Ready ws → AllAccepted ws fresh × IsUnion (writeAll ws fresh) (given ws)
+united ws k = union-of-writes ws (k .well-formed) (k .compatible) (k .fits)
+
+agree : (us vs : List Write) → Ready (us ++ vs) → Agreed (writeAll us fresh) (writeAll vs fresh)
+agree us vs k = two-way-made us vs (k .well-formed) (k .compatible) (k .fits)
+
+pub pair-union : AllAccepted (one ++ apart) fresh × IsUnion (writeAll (one ++ apart) fresh) (given (one ++ apart))
+pair-union = united (one ++ apart) pair-ready
+
+-- "they never agree" where known leaves are skipped; here they do
+pub pair-agrees : Agreed (writeAll one fresh) (writeAll apart fresh)
+pair-agrees = agree one apart pair-ready
 
 pub offices-union : AllAccepted (office ++ field) fresh × IsUnion (writeAll (office ++ field) fresh) (given (office ++ field))
-offices-union = union-of-writes (office ++ field) (offices-ready .well-formed) (offices-ready .compatible) (offices-ready .fits)
+offices-union = united (office ++ field) offices-ready
 
 pub offices-agree : Agreed (writeAll office fresh) (writeAll field fresh)
-offices-agree = two-way-made office field (offices-ready .well-formed) (offices-ready .compatible) (offices-ready .fits)
+offices-agree = agree office field offices-ready
 
 -- ---- any order: both lists in the other order, and the second once more
 
@@ -95,17 +120,10 @@ pub offices-any-order : SameButSeq (writeAll (office ++ field) fresh) (writeAll 
 offices-any-order =
     any-order (office ++ field) around same-writes (offices-ready .well-formed) (offices-ready .compatible) (offices-ready .fits)
 
--- ---- 33 repeats of one write of 16 revisions: the union fits, the sum does not
-
-abbrev pub long : Write
-long = on lot 16 (1 ∷ 2 ∷ 3 ∷ 4 ∷ 5 ∷ 6 ∷ 7 ∷ 8 ∷ 9 ∷ 10 ∷ 11 ∷ 12 ∷ 13 ∷ 14 ∷ 15 ∷ 16 ∷ []) (Live 1)
-
-pub long-ready : Ready (long ∷ [])
-unfolding unready malformed notBytes incompatible clashes clash idsOf tagged revisionsOf badId badPath lowNumber firstThat any hashes pieces join gives along orderBytes orderRev orderN sameRev
-long-ready = ready (long ∷ []) refl
+-- ---- that long write, once more often than there is room for documents: the union fits, the sum does not
 
 abbrev pub repeats : List Write
-repeats = replicate 33 long
+repeats = replicate (documentsMost + 1) long
 
 repeated : (n : ℕ) (w v : Write) → In v (replicate n w) → In v (w ∷ [])
 repeated zero w v m = absurd m
@@ -113,20 +131,20 @@ repeated (suc n) w v (inl q) = inl q
 repeated (suc n) w v (inr m) = repeated n w v m
 
 pub repeats-ready : Ready repeats
-repeats-ready = ready-part repeats (long ∷ []) (repeated 33 long) long-ready
+repeats-ready = ready-part repeats (long ∷ []) (repeated (documentsMost + 1) long) long-ready
 
--- counted with repeats they would need 33 documents and 528 revisions
-pub repeats-sum : (length (idsOf repeats) ≡ 33) × (length (revisionsOf repeats) ≡ 528)
+-- counted with repeats they would need more documents and more revisions than there is room for
+pub repeats-sum : (documentsMost < length (idsOf repeats)) × (revisionsMost < length (revisionsOf repeats))
 unfolding idsOf tagged revisionsOf gives along hashes pieces join
-repeats-sum = (refl, refl)
+repeats-sum = (omega arith, omega arith)
 
 pub repeats-same : SameButSeq (writeAll (long ∷ []) fresh) (writeAll repeats fresh)
 repeats-same =
-    any-order (long ∷ []) repeats (λ w. (λ m. elim m [ inl q ↦ inl q | inr z ↦ absurd z ], repeated 33 long w))
+    any-order (long ∷ []) repeats (λ w. (λ m. elim m [ inl q ↦ inl q | inr z ↦ absurd z ], repeated (documentsMost + 1) long w))
     (long-ready .well-formed) (long-ready .compatible) (long-ready .fits) .0
 
 pub repeats-union : AllAccepted repeats fresh × IsUnion (writeAll repeats fresh) (given repeats)
-repeats-union = union-of-writes repeats (repeats-ready .well-formed) (repeats-ready .compatible) (repeats-ready .fits)
+repeats-union = united repeats repeats-ready
 
 -- ---- a loaded high sequence: one side has no sequence left, the other one
 
@@ -150,7 +168,7 @@ find-alone i j d e = go (orderBytes j i) refl
     go Greater p q = absurd (none≢some q)
 
 -- it is one where its tree is a document's of a replica
-alone-is : (r : Replica) → IsReplica r → (d : Document) → documentOf r lot ≡ some d → (n : ℕ) → 1 ≤ n → n ≤ last → IsReplica (alone n (d .tree))
+alone-is : (r : Replica) → IsReplica r → (d : Document) → documentOf r lot ≡ some d → (n : ℕ) → 1 ≤ n → n ≤ seqMost → IsReplica (alone n (d .tree))
 unfolding documentOf revisionsHeld largestSeq
 alone-is r k d e n low high = record {
   ascending = (tt, tt);
@@ -173,7 +191,7 @@ alone-is r k d e n low high = record {
       seq-own = λ j x f q. find-alone lot j now x f .0;
     }
 
-alone-of : (r : Replica) → IsReplica r → isNone (documentOf r lot) ≡ false → (n : ℕ) → 1 ≤ n → n ≤ last → IsReplica (alone n (treeOf r lot))
+alone-of : (r : Replica) → IsReplica r → isNone (documentOf r lot) ≡ false → (n : ℕ) → 1 ≤ n → n ≤ seqMost → IsReplica (alone n (treeOf r lot))
 unfolding treeOf
 alone-of r k e n low high = go (documentOf r lot) refl e
   where
@@ -191,7 +209,11 @@ record High : Type 0 where
   pub back : any isSpent (answers spent (offers allFrom (there spent nearly))) ≡ false
 
 high : High
-unfolding isSpent answers trees pull take-in count offers offersIn offersOf offer documentsAfter insertBySeq pathOf ancestry leaves writeAll write writeRefusals roomRefusals badId badPath lowNumber otherParent otherContent documentsFull revisionsFull sequenceSpent countNew isNew isAddition adds added addAll gives along hashes pieces join firstThat any find alter orderBytes orderRev orderN sameRev documentOf treeOf revisionsHeld
+unfolding isSpent answers trees pull take-in count offers offersIn offersOf offer documentsAfter insertBySeq pathOf
+    ancestry leaves writeAll write writeRefusals roomRefusals badId badPath lowNumber otherParent otherContent
+    documentsFull revisionsFull sequenceSpent countNew countParents isNew isNewParent adds howMany added addAll gives
+    along hashes pieces join firstThat any find alter orderBytes orderRev orderN sameRev documentOf treeOf
+    revisionsHeld
 high = record { one-there = refl; apart-there = refl; one-same = refl; apart-same = refl; forth = refl; back = refl }
 
 module _ (ws : List Write) (among : (w : Write) → In w ws → In w (one ++ apart)) where
@@ -245,7 +267,11 @@ pub record Come : Type 0 where
   pub offices-note : seen (back (writeAll office fresh) (writeAll field fresh)) note ≡ ((3, 0x44) ∷ [], some (3, 0x44))
 
 pub come : Come
-unfolding pull take-in count offers offersIn offersOf offer documentsAfter insertBySeq pathOf ancestry leaves writeAll write writeRefusals roomRefusals badId badPath lowNumber otherParent otherContent documentsFull revisionsFull sequenceSpent countNew isNew isAddition adds added addAll gives along hashes pieces join firstThat any find alter orderBytes orderRev orderN sameRev documentOf treeOf revisionsHeld shorts orderLeaf highest winner
+unfolding pull take-in count offers offersIn offersOf offer documentsAfter insertBySeq pathOf ancestry leaves writeAll
+    write writeRefusals roomRefusals badId badPath lowNumber otherParent otherContent documentsFull revisionsFull
+    sequenceSpent countNew countParents isNew isNewParent adds howMany added addAll gives along hashes pieces join
+    firstThat any find alter orderBytes orderRev orderN sameRev documentOf treeOf revisionsHeld shorts orderLeaf
+    highest winner
 come = record {
   pair-there = refl;
   pair-back = refl;

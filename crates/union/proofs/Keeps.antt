@@ -8,22 +8,23 @@ use Prim.Native.Nat.{ℕ, suc, _+_, _/_, _≤_, _<_}
 use native.Mathlib.Omega.{arith}
 use lib.Dec.{eqb, leb, ltb}
 use lib.ListN.{length}
-use borrow.Author.Tests.{ltb-false, leb-false, eqb-true, eqb-false, not-false}
+use borrow.Author.Tests.{ltb-false, leb-false, eqb-false}
 use Rattle.rules.specs.declared.Content.{Content}
-use Rattle.rules.specs.declared.Content.the-variants.{Live, Deleted}
 use Rattle.rules.specs.declared.Order.{Order}
 use Rattle.rules.specs.declared.Order.the-variants.{Less, Equal, Greater}
 use Rattle.rules.specs.declared.Revision.{Revision}
 use Rattle.rules.specs.declared.Seq.{Seq}
 use Rattle.rules.specs.Bytes.{Bytes}
 use Rattle.rules.specs.Map.{Map, find, alter}
-use Rattle.rules.specs.Order.{orderBytes, orderRev, sameRev, isEqual}
+use Rattle.rules.specs.Order.{orderBytes, sameRev}
 use Rattle.rules.specs.Replica.{Id, Hash, Node, Tree, Document, Replica, fresh, documentOf, treeOf, revisionsHeld, largestSeq, IsId, IsRevision, IsContent, IsReplica}
-use Rattle.rules.specs.Room.{documentsMost, revisionsMost, idMost, hashSize, last}
+use Rattle.rules.specs.Room.{documentsMost, revisionsMost, idMost, hashSize, seqMost}
 use Rattle.rules.specs.Union.{In, IsWrite, writeAll}
-use Rattle.rules.specs.Write.{Write, hashes, gives, added, adds, differ, otherParent, otherContent, agree, badId, lowNumber, isNone, documentsFull, revisionsFull, sequenceSpent, countNew, write}
-use Rattle.rules.proofs.OrderLaws.{bytesOrder, revOrder}
+use Rattle.rules.specs.Write.{Write, hashes, gives, added, adds, otherParent, otherContent, agree, badId, lowNumber, isNone, documentsFull, revisionsFull, sequenceSpent, countNew, write}
+use Rattle.rules.proofs.OrderLaws.{bytesOrder, sameRev-true}
 use Rattle.rules.proofs.MapLaws.{none≢some, some-inj}
+use Rattle.rules.proofs.ChoiceLaws.{or-left, or-right}
+use Rattle.rules.proofs.GivenLaws.{agree-true, differ-same}
 use Rattle.rules.proofs.ByteLaws.{Sized, AllBytes, sized-pieces, bytes-pieces}
 use Rattle.union.proofs.Lists.{any-out}
 use Rattle.union.proofs.Trees.{Agrees, Entry}
@@ -31,43 +32,22 @@ use Rattle.union.proofs.Paths.{Closed, Numbers, along-content, along-ha
 use Rattle.union.proofs.Count.{find-in, length-alter, length-alter-some}
 use Rattle.union.proofs.Growth.{held-after}
 use Rattle.union.proofs.Sets.{Givens, _⊎w_, closed-w}
-use Rattle.union.proofs.Refusals.{Passed, Well, or-false, passed}
+use Rattle.union.proofs.Refusals.{Passed, Well, passed}
 use Rattle.union.proofs.Cases.{added-here, added-other, each-id, now, write-by}
 use Rattle.union.proofs.Replicas.{Holds, holds-added, holds-quiet}
 use Rattle.union.proofs.Held.{Has, Own, Sound, closed-own, document-id, document-tree, holds-own, sound-own}
 
 -- ---- what the tests say when they fail
 
-isEqual-true : (o : Order) → isEqual o ≡ true → o ≡ Equal
-isEqual-true Less e = absurd (true≢false (sym e))
-isEqual-true Equal e = refl
-isEqual-true Greater e = absurd (true≢false (sym e))
-
-pub sameRev-true : (a b : Revision) → sameRev a b ≡ true → a ≡ b
-unfolding sameRev
-sameRev-true a b e = revOrder .same a b (isEqual-true (orderRev a b) e)
-
-pub agree-true : (a b : Content) → agree a b ≡ true → a ≡ b
-agree-true (Live a) (Live b) e = ap Live (eqb-true a b e)
-agree-true (Live a) Deleted e = absurd (true≢false (sym e))
-agree-true Deleted (Live b) e = absurd (true≢false (sym e))
-agree-true Deleted Deleted e = refl
-
-pub differ-out : {A : Type 0} (same : A → A → Bool) → ((a b : A) → same a b ≡ true → a ≡ b) → (x y : Option A) → differ same x y ≡ false
-    → (a b : A) → x ≡ some a → y ≡ some b → a ≡ b
-differ-out same s none y e a b p q = absurd (none≢some p)
-differ-out same s (some c) none e a b p q = absurd (none≢some q)
-differ-out same s (some c) (some d) e a b p q = sym (some-inj p) ∙ (s c d (not-false (same c d) e) ∙ some-inj q)
-
 other-parent-out : (t : Tree) (v : Revision) (c d : Node) → Has t (v, c) → otherParent t (v, d) ≡ false
     → (p q : Revision) → c .parent ≡ some p → d .parent ≡ some q → p ≡ q
 unfolding otherParent
-other-parent-out t v c d m e p q a b = differ-out sameRev sameRev-true (c .parent) (d .parent) (rw m at e) p q a b
+other-parent-out t v c d m e p q a b = sameRev-true p q (differ-same sameRev (c .parent) (d .parent) (rw m at e) p q a b)
 
 other-content-out : (t : Tree) (v : Revision) (c d : Node) → Has t (v, c) → otherContent t (v, d) ≡ false
     → (p q : Content) → c .content ≡ some p → d .content ≡ some q → p ≡ q
 unfolding otherContent
-other-content-out t v c d m e p q a b = differ-out agree agree-true (c .content) (d .content) (rw m at e) p q a b
+other-content-out t v c d m e p q a b = agree-true p q (differ-same agree (c .content) (d .content) (rw m at e) p q a b)
 
 -- ---- what a write in range gives
 
@@ -84,9 +64,8 @@ bytes-in (y ∷ ys) h s (inr m) = bytes-in ys h (s .1) m
 is-id : (i : Id) → Bytes i → badId i ≡ false → IsId i
 unfolding badId
 is-id i b e =
-    let t = or-false (eqb (length i) 0) (ltb idMost (length i)) e in
-    let n = eqb-false (length i) 0 (t .0) in
-    let m = ltb-false idMost (length i) (t .1) in
+    let n = eqb-false (length i) 0 (or-left (eqb (length i) 0) (ltb idMost (length i)) e) in
+    let m = ltb-false idMost (length i) (or-right (eqb (length i) 0) (ltb idMost (length i)) e) in
     record { bytes = b; least = omega arith; most = m }
 
 module _ (w : Write) (q : IsWrite w) (k : Well w) where
@@ -111,7 +90,7 @@ module _ (w : Write) (q : IsWrite w) (k : Well w) where
   unfolding gives
   given-content x c m e = subst IsContent (some-inj (along-content (hashes w) (w .number .0) (some (w .content)) x c m e)) (q .content)
 
-  pub sound-w : (G : Givens) → Sound G → Sound (G ⊎w w)
+  sound-w : (G : Givens) → Sound G → Sound (G ⊎w w)
   sound-w G s = record {
     id = λ i x m. elim m [ inl t ↦ subst IsId (t .0) (is-id (w .id) (q .id) (k .id-ok)) | inr t ↦ s .id i x t ];
     revision = λ i x m. elim m [ inl t ↦ given-revision x (t .1) | inr t ↦ s .revision i x t ];
@@ -248,8 +227,8 @@ module _ (r : Replica) (w : Write) (k : IsReplica r) where
 
 -- ---- replicas stay replicas
 
-seq-room : (b : Bool) (n : ℕ) → (b && eqb n last) ≡ false → b ≡ true → n ≤ last → n < last
-seq-room true n e q h = let t = eqb-false n last e in omega arith
+seq-room : (b : Bool) (n : ℕ) → (b && eqb n seqMost) ≡ false → b ≡ true → n ≤ seqMost → n < seqMost
+seq-room true n e q h = let t = eqb-false n seqMost e in omega arith
 seq-room false n e q h = absurd (true≢false (sym q))
 
 pub added-keeps : (r : Replica) (w : Write) → IsReplica r → IsWrite w → Passed r w → adds r w ≡ true → IsReplica (added r w)

@@ -20,7 +20,7 @@ pub mod Orders
 pub mod Held
 pub mod Keeps
 pub mod Edits
-pub mod WriteLeaves
+pub mod WriteLeft
 pub mod Offers
 pub mod Pulls
 pub mod TwoWay

@@ -16,11 +16,11 @@ use Rattle.rules.specs.Choice.{pick, maybe}
 use Rattle.rules.specs.Map.{find}
 use Rattle.rules.specs.Order.{orderRev}
 use Rattle.rules.specs.Pull.{offer, offersOf, offersIn, offers}
-use Rattle.rules.specs.Read.{LeafOf, leaves, parentIn, ancestry, pathOf, insertBySeq, documentsAfter}
+use Rattle.rules.specs.Read.{LeafOf, leaves, ancestry, pathOf, insertBySeq, documentsAfter}
 use Rattle.rules.specs.Replica.{Id, Hash, revision, Node, Tree, Document, Replica, documentOf, treeOf, revisionsHeld, HasContent, IsId, IsTree, IsDocument, IsReplica}
-use Rattle.rules.specs.Room.{idMost, hashSize, hashesMost, last}
+use Rattle.rules.specs.Room.{idMost, hashSize, hashesMost, numberMost}
 use Rattle.rules.specs.Union.{In, IsWrite, allFrom}
-use Rattle.rules.specs.Write.{Write, hashes, newestOf, along, gives, badId, lowNumber}
+use Rattle.rules.specs.Write.{Write, hashes, newestOf, along, gives, badId, lowNumber, parentIn}
 use Rattle.rules.proofs.OrderLaws.{bytesOrder, revOrder, rev-path}
 use Rattle.rules.proofs.MapLaws.{some-inj}
 use Rattle.rules.proofs.ByteLaws.{Sized, AllBytes, bytes-join}
@@ -135,7 +135,7 @@ module _ (t : Tree) (k : IsTree t) where
   unfolding gives offer
   offer-gives i a h = ap (λ (hs : List Hash). along (a .rev .number .0) hs (some (a .content))) (offer-hashes i a h)
 
-  pub offer-known : (i : Id) (a : LeafOf) → HasContent t (a .rev) (a .content) → (x : Entry) → In x (gives (offer i t a)) → Has t x
+  offer-known : (i : Id) (a : LeafOf) → HasContent t (a .rev) (a .content) → (x : Entry) → In x (gives (offer i t a)) → Has t x
   unfolding pathOf
   offer-known i a h x m = path-known (a .rev .number .0) (a .rev) (h .0) (some (a .content)) (h .1) refl (h .2) x (rw (offer-gives i a h) at m)
 
@@ -156,7 +156,7 @@ module _ (t : Tree) (k : IsTree t) where
       let q : d .0 ≡ x .1 = some-inj (sym z ∙ m) in
       (u .0, u .1, subst (λ (c : Node). In (x .0, c) (gives (offer i t (u .0)))) q (d .1))
 
-  pub on-path : (i : Id) (f : ℕ) (x : Entry) → Has t x → last ≤ x .0 .number .0 + f → OnPath i x
+  on-path : (i : Id) (f : ℕ) (x : Entry) → Has t x → numberMost ≤ x .0 .number .0 + f → OnPath i x
   on-path i zero x m h =
       by-option (x .1 .content)
       (λ e. let u = closed-tree t k .up (x .0) (x .1) m e in
@@ -316,7 +316,7 @@ module _ (r : Replica) (k : IsReplica r) where
   record FromLeaf (w : Write) : Type 0 where
     pub id : Id
     pub document : Document
-    pub in-replica : In (id, document) (r .documents)
+    in-replica : In (id, document) (r .documents)
     pub is : IsDocument r id document
     pub held : documentOf r id ≡ some document
     pub leaf : LeafOf
@@ -358,7 +358,7 @@ module _ (r : Replica) (k : IsReplica r) where
   own-offers i x m =
       let d = document-of r k i x m in
       let j = find-in bytesOrder (r .documents) i (d .0) (d .1) in
-      let u = on-path (d .0 .tree) (d .3 .tree) i last x (d .2) (omega arith) in
+      let u = on-path (d .0 .tree) (d .3 .tree) i numberMost x (d .2) (omega arith) in
       let w = offer i (d .0 .tree) (u .0) in (
         w,
         offers-in (documentsAfter allFrom (r .documents)) (i, d .0) w (after-in allFrom (r .documents) (i, d .0) (d .3 .seq-least) j)
@@ -401,7 +401,7 @@ module _ (r : Replica) (k : IsReplica r) where
           }
 
   -- what the offer of a leaf gives is in its range
-  pub offer-range : (i : Id) (d : Document) → IsDocument r i d → (a : LeafOf) → HasContent (d .tree) (a .rev) (a .content) → IsWrite (offer i (d .tree) a)
+  offer-range : (i : Id) (d : Document) → IsDocument r i d → (a : LeafOf) → HasContent (d .tree) (a .rev) (a .content) → IsWrite (offer i (d .tree) a)
   unfolding offer pathOf
   offer-range i d h a c = record {
     id = h .id .bytes;

@@ -1,24 +1,23 @@
 -- What a path gives is closed under parents; the tests 4 and 5; a write that finds nothing to add. Assumes nothing.
 use mathlib.Core.Path.{_≡_, refl, sym, ap, _∙_, subst}
-use mathlib.Core.Bool.{Bool, true, false, not, true≢false}
+use mathlib.Core.Bool.{false, true≢false}
 use mathlib.Core.List.{List, [], _∷_}
 use mathlib.Core.Logic.{_⊎_, inl, inr}
 use mathlib.Core.Option.{Option, none, some}
 use Prim.Native.Nat.{ℕ, zero, suc, pred, _≤_}
 use native.Mathlib.Omega.{arith}
 use lib.ListN.{length}
-use borrow.Author.Tests.{eq-eqb}
 use Rattle.rules.specs.declared.Content.{Content}
-use Rattle.rules.specs.declared.Content.the-variants.{Live, Deleted}
 use Rattle.rules.specs.declared.Revision.{Revision}
 use Rattle.rules.specs.Choice.{any}
 use Rattle.rules.specs.Map.{find}
 use Rattle.rules.specs.Order.{orderRev, sameRev}
 use Rattle.rules.specs.Replica.{Hash, revision, Node, Tree}
 use Rattle.rules.specs.Union.{In}
-use Rattle.rules.specs.Write.{Write, hashes, newestOf, along, gives, lacksParent, isAddition, differ, otherParent, otherContent, agree}
-use Rattle.rules.proofs.OrderLaws.{revOrder}
+use Rattle.rules.specs.Write.{Write, hashes, newestOf, along, gives, lacksParent, isAddition, otherParent, otherContent, agree}
+use Rattle.rules.proofs.OrderLaws.{true-sameRev}
 use Rattle.rules.proofs.MapLaws.{none≢some, some-inj}
+use Rattle.rules.proofs.GivenLaws.{true-agree, same-differ}
 use Rattle.union.proofs.Lists.{any-none, any-out}
 use Rattle.union.proofs.Nodes.{At, AtSome, by-option}
 use Rattle.union.proofs.Trees.{Agrees, Entry, Given, Rep, _∪_}
@@ -78,20 +77,6 @@ write-closed w = record {
 
 -- ---- the tests 4 and 5
 
-differ-none : {A : Type 0} (same : A → A → Bool) → ((a : A) → same a a ≡ true) → (x y : Option A)
-    → ((a b : A) → x ≡ some a → y ≡ some b → a ≡ b) → differ same x y ≡ false
-differ-none same s none y h = refl
-differ-none same s (some a) none h = refl
-differ-none same s (some a) (some b) h = ap not (subst (λ z. same a z ≡ true) (h a b refl refl) (s a))
-
-sameRev-self : (a : Revision) → sameRev a a ≡ true
-unfolding sameRev
-sameRev-self a = rw (revOrder .self a) refl
-
-agree-self : (a : Content) → agree a a ≡ true
-agree-self (Live n) = eq-eqb n n refl
-agree-self Deleted = refl
-
 module _ (t : Tree) (G : Given) (es : List Entry) (a : Rep t G) (g : Agrees (G ∪ es)) where
   at-some : (r : Revision) (c : Node) → find orderRev r t ≡ some c → AtSome c (λ c. G (r, c))
   at-some r c e = rw e at (a .at r)
@@ -102,8 +87,8 @@ module _ (t : Tree) (G : Given) (es : List Entry) (a : Rep t G) (g : Agrees (G �
     where
       go : (x : Entry) → In x es → (o : Option Node) → find orderRev (x .0) t ≡ o → otherParent t x ≡ false
       go x m none e = rw e refl
-      go x m (some c) e = rw e (differ-none sameRev sameRev-self (c .parent) (x .1 .parent)
-          (λ p q u v. let t = at-some (x .0) c e .parent-of p u in g (x .0) .parents (t .0) (x .1) p q (inr (t .1)) (inl m) (t .2) v))
+      go x m (some c) e = rw e (same-differ sameRev (c .parent) (x .1 .parent)
+          (λ p q u v. let t = at-some (x .0) c e .parent-of p u in true-sameRev p q (g (x .0) .parents (t .0) (x .1) p q (inr (t .1)) (inl m) (t .2) v)))
 
   pub not-other : any (otherContent t) es ≡ false
   unfolding otherContent
@@ -111,8 +96,8 @@ module _ (t : Tree) (G : Given) (es : List Entry) (a : Rep t G) (g : Agrees (G �
     where
       go : (x : Entry) → In x es → (o : Option Node) → find orderRev (x .0) t ≡ o → otherContent t x ≡ false
       go x m none e = rw e refl
-      go x m (some c) e = rw e (differ-none agree agree-self (c .content) (x .1 .content)
-          (λ p q u v. let t = at-some (x .0) c e .content-of p u in g (x .0) .contents (t .0) (x .1) p q (inr (t .1)) (inl m) (t .2) v))
+      go x m (some c) e = rw e (same-differ agree (c .content) (x .1 .content)
+          (λ p q u v. let t = at-some (x .0) c e .content-of p u in true-agree p q (g (x .0) .contents (t .0) (x .1) p q (inr (t .1)) (inl m) (t .2) v)))
 
   -- an entry that adds nothing: its revision is known, and its parent too if it gives one
   not-new : (x : Entry) → isAddition t x ≡ false → (c : Node) × (find orderRev (x .0) t ≡ some c) × (lacksParent (x .1 .parent) (c .parent) ≡ false)

@@ -14,13 +14,13 @@ use Rattle.rules.specs.declared.Outcome.the-variants.{Changed, Unchanged}
 use Rattle.rules.specs.declared.Seq.{Seq}
 use Rattle.rules.specs.declared.Written.{Written}
 use Rattle.rules.specs.declared.Written.the-variants.{Accepted, Refused}
-use Rattle.rules.specs.Choice.{pick, maybe}
+use Rattle.rules.specs.Choice.{pick, maybe, howMany}
 use Rattle.rules.specs.Pull.{offer, offersOf, offersIn, offers, count, noCounts, take-in, pull}
 use Rattle.rules.specs.Read.{leaves, insertBySeq, documentsAfter}
 use Rattle.rules.specs.Replica.{Id, Tree, Document, Replica, documentOf, revisionsHeld, IsReplica}
 use Rattle.rules.specs.Union.{In, Things, held, both, IsUnion, Within, Compatible, Fits, writeAll, AllAccepted, SeqSuffices, allFrom}
 use Rattle.rules.specs.Write.{Write, write}
-use Rattle.union.specs.Said.{total, leafCount, answers, isChanged, isUnchanged, isRefused, howMany, CountsEach}
+use Rattle.union.specs.Said.{total, leafCount, answers, isChanged, isUnchanged, isRefused, CountsEach}
 use Rattle.union.proofs.Lists.{map-in}
 use Rattle.union.proofs.Trees.{Entry}
 use Rattle.union.proofs.Sets.{Both, Plus, both-from, both-to, both-within, closed-both, compatible-within, fits-within, things, within-all, within-sub}
@@ -88,7 +88,7 @@ length-map : {A B : Type 0} (f : A → B) (xs : List A) → length (map f xs) �
 length-map f [] = refl
 length-map f (x ∷ xs) = ap suc (length-map f xs)
 
-pub offers-count : (ds : List (Id × Document)) → length (offersIn ds) ≡ leafCount ds
+offers-count : (ds : List (Id × Document)) → length (offersIn ds) ≡ leafCount ds
 unfolding offersIn offersOf leafCount
 offers-count [] = refl
 offers-count (d ∷ ds) =

@@ -10,7 +10,6 @@ use lib.ListN.{length}
 use borrow.Author.Tests.{leb-false, ltb-false}
 use Rattle.rules.specs.declared.Content.{Content}
 use Rattle.rules.specs.declared.Content.the-variants.{Live, Deleted}
-use Rattle.rules.specs.declared.Order.the-variants.{Equal}
 use Rattle.rules.specs.declared.Refusal.the-variants.{SequenceSpent}
 use Rattle.rules.specs.declared.Revision.{Revision}
 use Rattle.rules.specs.declared.Written.{Written}
@@ -20,16 +19,16 @@ use Rattle.rules.specs.Choice.{any, firstThat}
 use Rattle.rules.specs.Order.{orderBytes, isEqual, sameRev}
 use Rattle.rules.specs.Refusal.{refusalNumber}
 use Rattle.rules.specs.Replica.{Id, Node, Replica, IsContent}
-use Rattle.rules.specs.Room.{documentsMost, revisionsMost, last, labels}
+use Rattle.rules.specs.Room.{documentsMost, revisionsMost, numberMost, labels}
 use Rattle.rules.specs.Union.{In, Gives, given, WellFormed, Compatible, Fits, SeqSuffices}
 use Rattle.rules.specs.Write.{Write, gives, isNone, differ, agree, formRefusals, write}
-use Rattle.rules.proofs.OrderLaws.{TotalOrder, bytesOrder, revOrder}
+use Rattle.rules.proofs.OrderLaws.{bytesOrder, same-equal, sameRev-true, true-sameRev}
+use Rattle.rules.proofs.ChoiceLaws.{neither}
+use Rattle.rules.proofs.GivenLaws.{differ-same}
 use Rattle.union.specs.Said.{answers}
 use Rattle.union.proofs.Lists.{any-out}
 use Rattle.union.proofs.Trees.{Entry}
 use Rattle.union.proofs.Sets.{compatible-within, fits-within}
-use Rattle.union.proofs.Refusals.{or-false}
-use Rattle.union.proofs.Keeps.{agree-true, differ-out, sameRev-true}
 use Rattle.union.proofs.Orders.{part}
 
 -- ---- well-formed
@@ -43,12 +42,12 @@ noContent Deleted = false
 
 unfoldable pub malformed : Write → Bool
 malformed w =
-    notBytes (w .id) || (ltb last (w .number .0) || (notBytes (w .path) || (noContent (w .content) || not (isNone (firstThat (formRefusals w))))))
+    notBytes (w .id) || (ltb numberMost (w .number .0) || (notBytes (w .path) || (noContent (w .content) || not (isNone (firstThat (formRefusals w))))))
 
 bytes-if : (s : List ℕ) → notBytes s ≡ false → Bytes s
 unfolding notBytes any
 bytes-if [] e = tt
-bytes-if (b ∷ bs) e = let t = or-false (leb 256 b) (any (leb 256) bs) e in (leb-false 256 b (t .0), bytes-if bs (t .1))
+bytes-if (b ∷ bs) e = let t = neither (leb 256 b) (any (leb 256) bs) e in (leb-false 256 b (t .0), bytes-if bs (t .1))
 
 content-if : (c : Content) → noContent c ≡ false → IsContent c
 content-if (Live n) e = leb-false labels n e
@@ -61,14 +60,14 @@ none-if (some a) e = absurd (true≢false e)
 well-formed-if : (w : Write) → malformed w ≡ false → WellFormed w
 unfolding malformed
 well-formed-if w e =
-    let a = or-false (notBytes (w .id)) (ltb last (w .number .0) || (notBytes (w .path) || (noContent (w .content) || not (isNone (firstThat (formRefusals w)))))) e in
-    let b = or-false (ltb last (w .number .0)) (notBytes (w .path) || (noContent (w .content) || not (isNone (firstThat (formRefusals w))))) (a .1) in
-    let c = or-false (notBytes (w .path)) (noContent (w .content) || not (isNone (firstThat (formRefusals w)))) (b .1) in
-    let d = or-false (noContent (w .content)) (not (isNone (firstThat (formRefusals w)))) (c .1) in
+    let a = neither (notBytes (w .id)) (ltb numberMost (w .number .0) || (notBytes (w .path) || (noContent (w .content) || not (isNone (firstThat (formRefusals w)))))) e in
+    let b = neither (ltb numberMost (w .number .0)) (notBytes (w .path) || (noContent (w .content) || not (isNone (firstThat (formRefusals w))))) (a .1) in
+    let c = neither (notBytes (w .path)) (noContent (w .content) || not (isNone (firstThat (formRefusals w)))) (b .1) in
+    let d = neither (noContent (w .content)) (not (isNone (firstThat (formRefusals w)))) (c .1) in
     record {
       write = record {
         id = bytes-if (w .id) (a .0);
-        number = ltb-false last (w .number .0) (b .0);
+        number = ltb-false numberMost (w .number .0) (b .0);
         path = bytes-if (w .path) (c .0);
         content = content-if (w .content) (d .0);
       };
@@ -91,26 +90,23 @@ and-out : (a b : Bool) → (a && b) ≡ false → a ≡ true → b ≡ false
 and-out true b e q = e
 and-out false b e q = absurd (true≢false (sym q))
 
-same-if : {K : Type 0} (O : TotalOrder K) (a b : K) → a ≡ b → isEqual (O .cmp a b) ≡ true
-same-if {K} O a b e = rw (subst (λ (z : K). O .cmp a z ≡ Equal) e (O .self a)) refl
-
 module _ (ws : List Write) (h : incompatible ws ≡ false) where
   no-clash : (i : Id) (v : Revision) (c d : Node) → Gives ws i v c → Gives ws i v d
       → (differ sameRev (c .parent) (d .parent) ≡ false) × (differ agree (c .content) (d .content) ≡ false)
-  unfolding incompatible clashes clash sameRev
+  unfolding incompatible clashes clash
   no-clash i v c d m n =
       let a1 = any-out (λ w. any (clashes w) ws) ws (m .0) h (m .1) in
       let a2 = any-out (clashes (m .0)) ws (n .0) a1 (n .1) in
-      let a3 = and-out (isEqual (orderBytes (m .0 .id) (n .0 .id))) (any (λ x. any (clash x) (gives (n .0))) (gives (m .0))) a2 (same-if bytesOrder (m .0 .id) (n .0 .id) (m .2 ∙ sym (n .2))) in
+      let a3 = and-out (isEqual (orderBytes (m .0 .id) (n .0 .id))) (any (λ x. any (clash x) (gives (n .0))) (gives (m .0))) a2 (same-equal bytesOrder (m .0 .id) (n .0 .id) (m .2 ∙ sym (n .2))) in
       let a4 = any-out (λ x. any (clash x) (gives (n .0))) (gives (m .0)) (v, c) a3 (m .3) in
       let a5 = any-out (clash (v, c)) (gives (n .0)) (v, d) a4 (n .3) in
-      or-false (differ sameRev (c .parent) (d .parent)) (differ agree (c .content) (d .content))
-      (and-out (sameRev v v) (differ sameRev (c .parent) (d .parent) || differ agree (c .content) (d .content)) a5 (same-if revOrder v v refl))
+      neither (differ sameRev (c .parent) (d .parent)) (differ agree (c .content) (d .content))
+      (and-out (sameRev v v) (differ sameRev (c .parent) (d .parent) || differ agree (c .content) (d .content)) a5 (true-sameRev v v refl))
 
   compatible-if : Compatible (given ws)
   compatible-if = record {
-    parents = λ i v p q m n. differ-out sameRev sameRev-true (m .0 .parent) (n .0 .parent) (no-clash i v (m .0) (n .0) (m .1) (n .1) .0) p q (m .2) (n .2);
-    contents = λ i v p q m n. differ-out agree agree-true (m .0 .content) (n .0 .content) (no-clash i v (m .0) (n .0) (m .1) (n .1) .1) p q (m .2) (n .2);
+    parents = λ i v p q m n. sameRev-true p q (differ-same sameRev (m .0 .parent) (n .0 .parent) (no-clash i v (m .0) (n .0) (m .1) (n .1) .0) p q (m .2) (n .2));
+    contents = λ i v p q m n. differ-same agree (m .0 .content) (n .0 .content) (no-clash i v (m .0) (n .0) (m .1) (n .1) .1) p q (m .2) (n .2);
   }
 
 -- ---- the room, all that is given counted with repeats
@@ -177,9 +173,9 @@ pub record Ready (ws : List Write) : Type 0 where
 pub ready : (ws : List Write) → unready ws ≡ false → Ready ws
 unfolding unready
 ready ws e =
-    let a = or-false (any malformed ws) (incompatible ws || (ltb documentsMost (length (idsOf ws)) || ltb revisionsMost (length (revisionsOf ws)))) e in
-    let b = or-false (incompatible ws) (ltb documentsMost (length (idsOf ws)) || ltb revisionsMost (length (revisionsOf ws))) (a .1) in
-    let c = or-false (ltb documentsMost (length (idsOf ws))) (ltb revisionsMost (length (revisionsOf ws))) (b .1) in
+    let a = neither (any malformed ws) (incompatible ws || (ltb documentsMost (length (idsOf ws)) || ltb revisionsMost (length (revisionsOf ws)))) e in
+    let b = neither (incompatible ws) (ltb documentsMost (length (idsOf ws)) || ltb revisionsMost (length (revisionsOf ws))) (a .1) in
+    let c = neither (ltb documentsMost (length (idsOf ws))) (ltb revisionsMost (length (revisionsOf ws))) (b .1) in
     record {
       well-formed = λ w m. well-formed-if w (any-out malformed ws w (a .0) m);
       compatible = compatible-if ws (b .0);
@@ -204,5 +200,5 @@ pub suffices-if : (ws : List Write) (r : Replica) → any isSpent (answers r ws)
 unfolding answers isSpent
 suffices-if [] r e = tt
 suffices-if (w ∷ ws) r e =
-    let t = or-false (isSpent (write r w .0)) (any isSpent (answers (write r w .1) ws)) (unfold any in e) in
+    let t = neither (isSpent (write r w .0)) (any isSpent (answers (write r w .1) ws)) (unfold any in e) in
     (λ q. true≢false (sym (ap isSpent q) ∙ t .0), suffices-if ws (write r w .1) (t .1))

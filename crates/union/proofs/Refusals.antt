@@ -1,7 +1,6 @@
 -- The refusals of a write as facts: what none of them says, and that where each fails the write is not refused. Assumes nothing.
 use mathlib.Core.Path.{_≡_, refl, sym, ap}
 use mathlib.Core.Bool.{Bool, true, false, not, _||_, true≢false}
-use mathlib.Core.List.{List, [], _∷_}
 use mathlib.Core.Logic.{inl, inr}
 use mathlib.Core.Option.{none, some}
 use Prim.Native.Nat.{_%_}
@@ -10,41 +9,13 @@ use lib.Dec.{eqb, ltb}
 use lib.ListN.{length}
 use Rattle.rules.specs.declared.Refusal.{Refusal}
 use Rattle.rules.specs.declared.Refusal.the-variants.{BadId, BadPath, LowNumber, OtherParent, OtherContent, DocumentsFull, RevisionsFull, SequenceSpent}
-use Rattle.rules.specs.Choice.{pick, any, firstThat}
+use Rattle.rules.specs.Choice.{any, firstThat}
 use Rattle.rules.specs.Refusal.{refusalNumber}
 use Rattle.rules.specs.Replica.{Replica, treeOf}
 use Rattle.rules.specs.Room.{hashesMost, hashSize}
 use Rattle.rules.specs.Union.{In}
 use Rattle.rules.specs.Write.{Write, hashes, gives, otherParent, otherContent, badId, badPath, lowNumber, documentsFull, revisionsFull, sequenceSpent, formRefusals, roomRefusals, writeRefusals}
-use Rattle.rules.proofs.MapLaws.{none≢some, some-inj}
-
-pub or-false : (a b : Bool) → (a || b) ≡ false → (a ≡ false) × (b ≡ false)
-or-false true b e = absurd (true≢false e)
-or-false false b e = (refl, e)
-
--- none of the conditions holds
-abbrev pub NoneHolds : List (Bool × Refusal) → Type 0
-NoneHolds [] = Unit {0}
-NoneHolds (t ∷ ts) = (t .0 ≡ false) × NoneHolds ts
-
-pub none-first : (ts : List (Bool × Refusal)) → firstThat ts ≡ none → NoneHolds ts
-unfolding firstThat
-none-first [] e = tt
-none-first (t ∷ ts) e = go (t .0) refl (λ q. none-first ts q)
-  where
-    go : (b : Bool) → t .0 ≡ b → (firstThat ts ≡ none → NoneHolds ts) → (t .0 ≡ false) × NoneHolds ts
-    go true q ih = absurd (none≢some (sym (rw q at e)))
-    go false q ih = (q, ih (rw q at e))
-
--- what is first of them holds
-pub first-holds : (ts : List (Bool × Refusal)) (n : Refusal) → firstThat ts ≡ some n → In (true, n) ts
-unfolding firstThat
-first-holds [] n e = absurd (none≢some e)
-first-holds (t ∷ ts) n e = go (t .0) refl e (λ q. first-holds ts n q)
-  where
-    go : (b : Bool) → t .0 ≡ b → pick b (some (t .1)) (firstThat ts) ≡ some n → (firstThat ts ≡ some n → In (true, n) ts) → In (true, n) (t ∷ ts)
-    go true q e ih = inl (λ i. (sym q i, sym (some-inj e) i))
-    go false q e ih = inr (ih e)
+use Rattle.rules.proofs.ChoiceLaws.{none-holds, first-holds}
 
 -- 1 to 3 do not refuse
 pub record Well (w : Write) : Type 0 where
@@ -53,7 +24,7 @@ pub record Well (w : Write) : Type 0 where
   pub number-ok : lowNumber w ≡ false
 
 pub well : (w : Write) → firstThat (formRefusals w) ≡ none → Well w
-well w e = let t = none-first (formRefusals w) e in record { id-ok = t .0; path-ok = t .1 .0; number-ok = t .1 .1 .0 }
+well w e = let (one, (two, (three, end))) = none-holds (formRefusals w) e in record { id-ok = one; path-ok = two; number-ok = three }
 
 -- the three parts of refusal 2
 path-tests : (a b c : Bool) → (not a || (b || c)) ≡ false → (a ≡ true) × (b ≡ false) × (c ≡ false)
@@ -78,14 +49,14 @@ pub record Passed (r : Replica) (w : Write) : Type 0 where
 pub passed : (r : Replica) (w : Write) → firstThat (writeRefusals r w) ≡ none → Passed r w
 unfolding writeRefusals roomRefusals
 passed r w e =
-    let t = none-first (writeRefusals r w) e in
+    let (one, (two, (three, (four, (five, (six, (seven, (eight, end)))))))) = none-holds (writeRefusals r w) e in
     record {
-      form = record { id-ok = t .0; path-ok = t .1 .0; number-ok = t .1 .1 .0 };
-      four = t .1 .1 .1 .0;
-      five = t .1 .1 .1 .1 .0;
-      six = t .1 .1 .1 .1 .1 .0;
-      seven = t .1 .1 .1 .1 .1 .1 .0;
-      eight = t .1 .1 .1 .1 .1 .1 .1 .0;
+      form = record { id-ok = one; path-ok = two; number-ok = three };
+      four = four;
+      five = five;
+      six = six;
+      seven = seven;
+      eight = eight;
     }
 
 pub unrefused : (r : Replica) (w : Write) → Passed r w → firstThat (writeRefusals r w) ≡ none

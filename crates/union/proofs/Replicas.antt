@@ -1,5 +1,5 @@
 -- A replica against a set of entries for each id: a write adds its entries to the set, and is accepted where the set stays compatible and fits. Assumes nothing.
-use mathlib.Core.Path.{_≡_, refl, sym, subst}
+use mathlib.Core.Path.{_≡_, refl, sym, _∙_, subst}
 use mathlib.Core.Bool.{Bool, true, false, _&&_, true≢false}
 use mathlib.Core.List.{List, [], _∷_}
 use mathlib.Core.Logic.{inl, inr}
@@ -19,9 +19,11 @@ use Rattle.rules.specs.Order.{orderBytes}
 use Rattle.rules.specs.Replica.{Id, Hash, Document, Replica, treeIn, documentOf, treeOf, revisionsHeld}
 use Rattle.rules.specs.Room.{documentsMost, revisionsMost}
 use Rattle.rules.specs.Union.{In, Fits, IsAccepted}
-use Rattle.rules.specs.Write.{Write, hashes, along, gives, addAll, added, adds, isNone, otherParent, otherContent, documentsFull, revisionsFull, sequenceSpent, countNew, roomRefusals, writeRefusals, write}
+use Rattle.rules.specs.Write.{Write, hashes, along, gives, addAll, added, adds, isNone, otherParent}
+use Rattle.rules.specs.Write.{otherContent, documentsFull, revisionsFull, sequenceSpent, countNew, roomRefusals, writeRefusals, write}
 use Rattle.rules.proofs.OrderLaws.{bytesOrder, revOrder}
 use Rattle.rules.proofs.MapLaws.{ascending-alter}
+use Rattle.rules.proofs.GivenLaws.{adds-any}
 use Rattle.union.proofs.Nodes.{AtSome}
 use Rattle.union.proofs.Trees.{Agrees, Entry, Given, Rep, _∪_, agree-sub, rep-adds, rep-empty, rep-iff}
 use Rattle.union.proofs.Paths.{Closed, not-crossed, not-other, rep-same, write-closed}
@@ -41,7 +43,7 @@ pub record Holds (r : Replica) (G : Givens) : Type 0 where
   pub ascending : Ascending orderBytes (r .documents)
   pub at : (i : Id) → DocAt (documentOf r i) (G i)
 
-pub doc-iff : (o : Option Document) (G H : Given) → ((x : Entry) → G x → H x) → ((x : Entry) → H x → G x) → DocAt o G → DocAt o H
+doc-iff : (o : Option Document) (G H : Given) → ((x : Entry) → G x → H x) → ((x : Entry) → H x → G x) → DocAt o G → DocAt o H
 doc-iff none G H f g a = λ x h. a x (g x h)
 doc-iff (some d) G H f g a = (rep-iff (d .tree) G H f g (a .0), (a .1 .0, f (a .1 .0) (a .1 .1)))
 
@@ -99,12 +101,12 @@ module _ (r : Replica) (w : Write) (G : Givens) (a : Holds r G) (g : (i : Id) �
   }
 
   pub holds-quiet : ((i : Id) → Closed (G i)) → adds r w ≡ false → Holds r (G ⊎w w)
-  unfolding adds treeOf
+  unfolding treeOf
   holds-quiet c e = record {
     ascending = a .ascending;
     at = each-id (w .id) (λ i. DocAt (documentOf r i) ((G ⊎w w) i))
         (here (documentOf r (w .id)) (a .at (w .id))
-        (rep-same (treeOf r (w .id)) (G (w .id)) (gives w) rep-now agree-here (c (w .id)) (write-closed w) e))
+        (rep-same (treeOf r (w .id)) (G (w .id)) (gives w) rep-now agree-here (c (w .id)) (write-closed w) (sym (adds-any r w) ∙ e)))
         (λ i n. doc-iff (documentOf r i) (G i) ((G ⊎w w) i) (λ x t. inr t) (other i n) (a .at i));
   }
     where
@@ -114,7 +116,7 @@ module _ (r : Replica) (w : Write) (G : Givens) (a : Holds r G) (g : (i : Id) �
 
 -- ---- the limits
 
-pub documents-fit : (r : Replica) (G : Givens) → Holds r G → Fits (things G) → length (r .documents) ≤ documentsMost
+documents-fit : (r : Replica) (G : Givens) → Holds r G → Fits (things G) → length (r .documents) ≤ documentsMost
 unfolding documentOf
 documents-fit r G a f =
     let h = pigeon bytesOrder (r .documents) (a .ascending) (f .ids) (λ x m. go x m) in let k = f .ids-most in omega arith

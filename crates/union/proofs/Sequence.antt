@@ -18,11 +18,12 @@ use Rattle.rules.specs.Choice.{orElse, maybe, any}
 use Rattle.rules.specs.Map.{Map, find}
 use Rattle.rules.specs.Order.{orderBytes, orderRev}
 use Rattle.rules.specs.Replica.{Id, Node, Tree, Document, Replica, fresh, treeIn, documentOf, treeOf, revisionsHeld}
-use Rattle.rules.specs.Room.{last}
+use Rattle.rules.specs.Room.{seqMost}
 use Rattle.rules.specs.Union.{In, given, Compatible, Fits, writeAll, SeqSuffices}
 use Rattle.rules.specs.Write.{Write, gives, learn, addAll, added, lacksParent, isAddition, adds, sequenceSpent, write}
 use Rattle.rules.proofs.OrderLaws.{less≢equal, equal≢greater, bytesOrder, revOrder}
 use Rattle.rules.proofs.MapLaws.{find-same, find-other}
+use Rattle.rules.proofs.GivenLaws.{adds-any}
 use Rattle.union.proofs.Trees.{Agrees, Entry, add}
 use Rattle.union.proofs.Paths.{Closed}
 use Rattle.union.proofs.Count.{on, sum, sum-alter, sum-at}
@@ -134,11 +135,11 @@ weight-on none = refl
 weight-on (some d) = refl
 
 added-weight : (r : Replica) (w : Write) → adds r w ≡ true → replicaWeight r < replicaWeight (added r w)
-unfolding replicaWeight added adds treeOf documentOf documentWeight
+unfolding replicaWeight added treeOf documentOf documentWeight
 added-weight r w e =
     let h = sum-alter bytesOrder documentWeight (w .id) (λ d. now r w) (r .documents) in
     let a = weight-on (find orderBytes (w .id) (r .documents)) in
-    let b = addition-weight (gives w) (treeOf r (w .id)) e in
+    let b = addition-weight (gives w) (treeOf r (w .id)) (sym (adds-any r w) ∙ e) in
     omega arith
 
 tree-twice : (t : Tree) → treeWeight t ≤ length t + length t
@@ -176,15 +177,15 @@ write-seq : (r : Replica) (w : Write) → write r w .1 .seq .0 ≤ suc (r .seq .
 write-seq r w = write-by r w (λ s. s .seq .0 ≤ suc (r .seq .0)) (omega arith) (λ e n. unfold added in omega arith)
 
 -- where a sequence is left, 8 is not answered
-not-spent : (r : Replica) (w : Write) → r .seq .0 < last → write r w .0 ≡ Refused SequenceSpent → ⊥
+not-spent : (r : Replica) (w : Write) → r .seq .0 < seqMost → write r w .0 ≡ Refused SequenceSpent → ⊥
 unfolding sequenceSpent
 not-spent r w h e = no (adds r w) (spent-only r w (refused-by r w SequenceSpent e))
   where
-    no : (b : Bool) → (b && eqb (r .seq .0) last) ≡ true → ⊥
-    no true q = let z = eqb-true (r .seq .0) last q in omega arith
+    no : (b : Bool) → (b && eqb (r .seq .0) seqMost) ≡ true → ⊥
+    no true q = let z = eqb-true (r .seq .0) seqMost q in omega arith
     no false q = true≢false (sym q)
 
-pub suffices-room : (ws : List Write) (r : Replica) → r .seq .0 + length ws ≤ last → SeqSuffices ws r
+pub suffices-room : (ws : List Write) (r : Replica) → r .seq .0 + length ws ≤ seqMost → SeqSuffices ws r
 suffices-room [] r h = tt
 suffices-room (w ∷ ws) r h = (not-spent r w (omega arith), suffices-room ws (write r w .1) (let t = write-seq r w in omega arith))
 
@@ -207,7 +208,7 @@ suffices-from (w ∷ ws) r G a c k g f h = (
     f1 : Fits (things (G ⊎w w))
     f1 = fits-within (things (G ⊎w w)) (things (Plus G (w ∷ ws))) (one-within G w ws) f
 
-    small : r .seq .0 < last
+    small : r .seq .0 < seqMost
     small =
         let a1 = revisions-fit r G a (fits-within (things G) (things (G ⊎w w)) (within-sub G (G ⊎w w) (λ i x m. inr m)) f1) in
         let a2 = documents-twice (r .documents) in

@@ -1,11 +1,12 @@
 -- Sets of entries, one for each document: parts of them, two together, and that they are closed under parents. Assumes nothing.
-use mathlib.Core.Path.{_≡_, refl}
+use mathlib.Core.Path.{_≡_}
 use mathlib.Core.List.{List}
 use mathlib.Core.Logic.{_⊎_, inl, inr}
 use mathlib.Core.Option.{some}
 use Rattle.rules.specs.Replica.{Id, Node}
 use Rattle.rules.specs.Union.{In, Things, Gives, given, both, Compatible, Fits, Within}
 use Rattle.rules.specs.Write.{Write, gives}
+use Rattle.rules.proofs.GivenLaws.{agree-true}
 use Rattle.union.proofs.Trees.{Agrees, Entry, Given}
 use Rattle.union.proofs.Paths.{Closed, write-closed}
 
@@ -83,7 +84,7 @@ compatible-within g h k c = record {
 pub agrees : (G : Givens) → Compatible (things G) → (i : Id) → Agrees (G i)
 agrees G g i v = record {
   parents = λ c d p q m n e f. g .parents i v p q (c, m, e) (d, n, f);
-  contents = λ c d p q m n e f. g .contents i v p q (c, m, e) (d, n, f);
+  contents = λ c d p q m n e f. agree-true p q (g .contents i v p q (c, m, e) (d, n, f));
 }
 
 -- two sets together: what is in either

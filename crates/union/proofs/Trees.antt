@@ -79,7 +79,7 @@ miss t e G r a n =
     from c (inl q) = absurd (n (subst (λ (x : Revision). orderRev r x ≡ Equal) (ap (λ (x : Entry). x .0) q) (revOrder .self r)))
     from c (inr s) = s
 
-pub rep-add : (t : Tree) (e : Entry) (G : Given) → Rep t G → Agrees (G ⊞ e) → Rep (add t e) (G ⊞ e)
+rep-add : (t : Tree) (e : Entry) (G : Given) → Rep t G → Agrees (G ⊞ e) → Rep (add t e) (G ⊞ e)
 rep-add t e G a g = record {
   ascending = ascending-alter revOrder (e .0) (learn (e .1)) t (a .ascending);
   at = λ r. go r (orderRev r (e .0)) refl;

@@ -40,7 +40,7 @@ leaves-out (x ∷ t) a m = go (in-cases a (leaves t) (leafIn x) m) (λ k. leaves
     go (inl k) ih = let u = ih k in (u .0, inr (u .1), u .2, u .3)
     go (inr k) ih = let u = leaf-out x (x .1 .content) refl a k in (x, inl refl, u .0, u .1)
 
-pub leaves-in : (t : Tree) (x : Entry) (c : Content) → In x t → x .1 .content ≡ some c → In (leafOf (x .0) c) (leaves t)
+leaves-in : (t : Tree) (x : Entry) (c : Content) → In x t → x .1 .content ≡ some c → In (leafOf (x .0) c) (leaves t)
 unfolding leaves
 leaves-in [] x c m e = absurd m
 leaves-in (y ∷ t) x c (inl q) e =
@@ -136,7 +136,7 @@ highest-in (a ∷ ls) m e = go (highest ls) refl (λ n q. highest-in ls n q)
         pickd Equal p = inl p
         pickd Greater p = inl p
 
-pub highest-top : (ls : List LeafOf) (m : LeafOf) → highest ls ≡ some m → (b : LeafOf) → In b ls → orderLeaf m b ≡ Less → ⊥
+highest-top : (ls : List LeafOf) (m : LeafOf) → highest ls ≡ some m → (b : LeafOf) → In b ls → orderLeaf m b ≡ Less → ⊥
 unfolding highest
 highest-top [] m e b i l = absurd i
 highest-top (a ∷ ls) m e b i l = go (highest ls) refl (λ n q k. highest-top ls n q b k) i

@@ -13,7 +13,7 @@ use Rattle.rules.specs.declared.Revision.{Revision}
 use Rattle.rules.specs.declared.Written.{Written}
 use Rattle.rules.specs.declared.Written.the-variants.{Accepted, Refused}
 use Rattle.rules.specs.Bytes.{Bytes}
-use Rattle.rules.specs.Choice.{pick, maybe}
+use Rattle.rules.specs.Choice.{maybe, howMany}
 use Rattle.rules.specs.Edit.{Edit}
 use Rattle.rules.specs.Order.{orderRev}
 use Rattle.rules.specs.Pull.{offers, pull}
@@ -36,7 +36,7 @@ pub record Knows (r : Replica) (w : Write) : Type 0 where
   pub parents : (v p : Revision) → given (w ∷ []) .parent (w .id) v p → held r .parent (w .id) v p
 
 -- what an accepted write w leaves of r, stated without running it
-pub record Leaves (r : Replica) (w : Write) (left : Replica) : Type 1 where
+pub record Left (r : Replica) (w : Write) (left : Replica) : Type 1 where
   -- "An accepted write adds the revisions and parents that the path gives and the replica lacks."
   pub union : IsUnion left (both (held r) (given (w ∷ [])))
   -- "Where nothing was added .. the sequence stays."
@@ -123,10 +123,6 @@ isUnchanged (Refused n) = false
 abbrev pub isRefused : Written → Bool
 isRefused (Accepted o) = false
 isRefused (Refused n) = true
-
-unfoldable pub howMany : (Written → Bool) → List Written → ℕ
-howMany is [] = 0
-howMany is (o ∷ os) = pick (is o) 1 0 + howMany is os
 
 -- "each count is that of the offers one by one": how many of them were answered so
 pub record CountsEach (c : Counts) (os : List Written) : Type 0 where

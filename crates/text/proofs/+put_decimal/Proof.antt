@@ -22,111 +22,60 @@ abbrev put-decimal-below : ℕ → In 1 put-decimal-kinds.ps
 put-decimal-below t =
     and 1 put-decimal-kinds.ps (falls 1 put-decimal-kinds.ps _<_ μ-put-decimal t) put-decimal.Pre
 
-put-decimal-add-s :
-    (t : ℕ) →
-    put-decimal-lts.Need-add-s
-    (put-decimal-below t, put-decimal.Post)
-    (put-decimal-at t)
-    put-decimal.Post
-put-decimal-add-s t c = search needs
+-- what its own call asks and promises
+abbrev claims : ℕ → put-decimal-lts.Claims
+claims t = (put-decimal-below t, put-decimal.Post)
 
-put-decimal-cast-s :
-    (t : ℕ) →
-    put-decimal-lts.Need-cast-s
-    (put-decimal-below t, put-decimal.Post)
-    (put-decimal-at t)
-    put-decimal.Post
+put-decimal-cast-s : (t : ℕ) → put-decimal-lts.Need-cast-s (claims t) (put-decimal-at t) put-decimal.Post
 put-decimal-cast-s t c = search needs
 
-put-decimal-slice-write-s : (t : ℕ) → put-decimal-lts.Need-slice-write-s (
-  put-decimal-below t,
-  put-decimal.Post,
-) (put-decimal-at t) put-decimal.Post
+put-decimal-add-s : (t : ℕ) → put-decimal-lts.Need-add-s (claims t) (put-decimal-at t) put-decimal.Post
+put-decimal-add-s t c = search needs
+
+put-decimal-slice-write-s : (t : ℕ) → put-decimal-lts.Need-slice-write-s (claims t) (put-decimal-at t) put-decimal.Post
 put-decimal-slice-write-s t c = omega (arith, length-digit (c .before .before .args .v) (c .if1 .taken))
 
-put-decimal-add-result : (t : ℕ) → put-decimal-lts.Need-add-result (
-  put-decimal-below t,
-  put-decimal.Post,
-) (put-decimal-at t) put-decimal.Post
+put-decimal-add-result : (t : ℕ) → put-decimal-lts.Need-add-result (claims t) (put-decimal-at t) put-decimal.Post
 put-decimal-add-result t c = search needs
 
-put-decimal-same-length : (t : ℕ) → put-decimal-lts.Need-same-length (
-  put-decimal-below t,
-  put-decimal.Post,
-) (put-decimal-at t) put-decimal.Post
+put-decimal-same-length : (t : ℕ) → put-decimal-lts.Need-same-length (claims t) (put-decimal-at t) put-decimal.Post
 put-decimal-same-length t c = search needs
 
-put-decimal-returns : (t : ℕ) → put-decimal-lts.Need-returns (
-  put-decimal-below t,
-  put-decimal.Post,
-) (put-decimal-at t) put-decimal.Post
-put-decimal-returns t c =
-    put-digit (c .before .before .args .s .now) (c .before .before .args .at) (c .before .before .args .v) (c .if1 .taken)
-    (omega (arith, length-digit (c .before .before .args .v) (c .if1 .taken)))
+put-decimal-returns : (t : ℕ) → put-decimal-lts.Need-returns (claims t) (put-decimal-at t) put-decimal.Post
+put-decimal-returns t c = let v = c .before .before .args .v in put-digit (c .if1 .taken) (omega (arith, length-digit v (c .if1 .taken)))
 
-put-decimal-put-decimal-requires : (t : ℕ) → put-decimal-lts.Need-put-decimal-requires (
-  put-decimal-below t,
-  put-decimal.Post,
-) (put-decimal-at t) put-decimal.Post
+put-decimal-put-decimal-requires : (t : ℕ) → put-decimal-lts.Need-put-decimal-requires (claims t) (put-decimal-at t) put-decimal.Post
 put-decimal-put-decimal-requires t c κs =
     let l = length-more (c .before .before .before .args .v) (omega arith) (omega arith) in omega arith
 
-put-decimal-add-s-2 : (t : ℕ) → put-decimal-lts.Need-add-s-2 (
-  put-decimal-below t,
-  put-decimal.Post,
-) (put-decimal-at t) put-decimal.Post
-put-decimal-add-s-2 t c = search needs
-
-put-decimal-cast-s-2 : (t : ℕ) → put-decimal-lts.Need-cast-s-2 (
-  put-decimal-below t,
-  put-decimal.Post,
-) (put-decimal-at t) put-decimal.Post
+put-decimal-cast-s-2 : (t : ℕ) → put-decimal-lts.Need-cast-s-2 (claims t) (put-decimal-at t) put-decimal.Post
 put-decimal-cast-s-2 t c = search needs
 
-put-decimal-slice-write-s-2 : (t : ℕ) → put-decimal-lts.Need-slice-write-s-2 (
-  put-decimal-below t,
-  put-decimal.Post,
-) (put-decimal-at t) put-decimal.Post
+put-decimal-add-s-2 : (t : ℕ) → put-decimal-lts.Need-add-s-2 (claims t) (put-decimal-at t) put-decimal.Post
+put-decimal-add-s-2 t c = search needs
+
+put-decimal-slice-write-s-2 : (t : ℕ) → put-decimal-lts.Need-slice-write-s-2 (claims t) (put-decimal-at t) put-decimal.Post
 put-decimal-slice-write-s-2 t c =
-    in-last (c .before .before .before .before .before .before .args .s .now) (c .before .before .put-decimal .last .0) (c .before .before .before .before .before .before .args .at) (c .before .before .put-decimal .result) (c .before .before .before .before .before .before .args .v) (omega arith) (omega arith) (c .before .before .before .before .before .before .pre .1) (c .before .before .put-decimal .ensures)
+    let e = c .before .before .before .before .before .before in
+    in-last {v = e .args .v} (omega arith) (omega arith) (e .pre .1) (c .before .before .put-decimal .ensures)
 
-put-decimal-add-result-2 : (t : ℕ) → put-decimal-lts.Need-add-result-2 (
-  put-decimal-below t,
-  put-decimal.Post,
-) (put-decimal-at t) put-decimal.Post
+put-decimal-add-result-2 : (t : ℕ) → put-decimal-lts.Need-add-result-2 (claims t) (put-decimal-at t) put-decimal.Post
 put-decimal-add-result-2 t c =
-    let h = in-last (c .before .before .before .before .before .before .args .s .now) (c .before .before .put-decimal .last .0) (c .before .before .before .before .before .before .args .at) (c .before .before .put-decimal .result) (c .before .before .before .before .before .before .args .v) (omega arith) (omega arith) (c .before .before .before .before .before .before .pre .1) (c .before .before .put-decimal .ensures) in omega arith
+    let e = c .before .before .before .before .before .before in
+    let h = in-last {v = e .args .v} (omega arith) (omega arith) (e .pre .1) (c .before .before .put-decimal .ensures) in
+    omega arith
 
-put-decimal-same-length-2 : (t : ℕ) → put-decimal-lts.Need-same-length-2 (
-  put-decimal-below t,
-  put-decimal.Post,
-) (put-decimal-at t) put-decimal.Post
+put-decimal-same-length-2 : (t : ℕ) → put-decimal-lts.Need-same-length-2 (claims t) (put-decimal-at t) put-decimal.Post
 put-decimal-same-length-2 t c = search needs
 
-put-decimal-returns-2 : (t : ℕ) → put-decimal-lts.Need-returns-2 (
-  put-decimal-below t,
-  put-decimal.Post,
-) (put-decimal-at t) put-decimal.Post
+put-decimal-returns-2 : (t : ℕ) → put-decimal-lts.Need-returns-2 (claims t) (put-decimal-at t) put-decimal.Post
 put-decimal-returns-2 t c =
-    put-last (c .before .before .before .before .before .before .args .s .now) (c .before .before .put-decimal .last .0) (c .before .before .before .before .before .before .args .at) (c .before .before .put-decimal .result) (c .before .before .before .before .before .before .args .v) (omega arith) (omega arith) (c .before .before .before .before .before .before .pre .1) (c .before .before .put-decimal .ensures)
+    let e = c .before .before .before .before .before .before in
+    put-last {v = e .args .v} (omega arith) (omega arith) (e .pre .1) (c .before .before .put-decimal .ensures)
 
 pub +put-decimal-spec : {M : Type 1} → statement M
-+put-decimal-spec = close μ-put-decimal λ t. put-decimal-lts.spec (
-  put-decimal-below t,
-  put-decimal.Post,
-)
-    (put-decimal-at t)
-    put-decimal.Post
-    (put-decimal-add-s t)
-    (put-decimal-cast-s t)
-    (put-decimal-slice-write-s t)
-    (put-decimal-add-result t)
-    (put-decimal-same-length t)
-    (put-decimal-returns t)
-    (put-decimal-put-decimal-requires t)
-    (put-decimal-add-s-2 t)
-    (put-decimal-cast-s-2 t)
-    (put-decimal-slice-write-s-2 t)
-    (put-decimal-add-result-2 t)
-    (put-decimal-same-length-2 t)
++put-decimal-spec = close μ-put-decimal λ t. put-decimal-lts.spec (claims t) (put-decimal-at t) put-decimal.Post
+    (put-decimal-cast-s t) (put-decimal-add-s t) (put-decimal-slice-write-s t) (put-decimal-add-result t)
+    (put-decimal-same-length t) (put-decimal-returns t) (put-decimal-put-decimal-requires t) (put-decimal-cast-s-2 t)
+    (put-decimal-add-s-2 t) (put-decimal-slice-write-s-2 t) (put-decimal-add-result-2 t) (put-decimal-same-length-2 t)
     (put-decimal-returns-2 t)

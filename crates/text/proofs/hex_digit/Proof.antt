@@ -5,8 +5,6 @@ use Rattle.rules.specs.Report.{hexDigit}
 use borrow.Author.Needs.{needs}
 use Rattle.text.proofs.hex_digit.Statement.{statement}
 use Rattle.text.proofs.hex_digit.Tie as tie
-use Rattle.text.proofs.hex_digit.Reads as reads
-use Rattle.text.proofs.hex_digit.Lts as lts
 
 add-result : tie.Need-add-result
 add-result c = search needs

@@ -12,9 +12,6 @@ use Rattle.text.proofs.TextLaws.{hex-step, length-hex}
 use borrow.Author.Needs.{needs}
 use Rattle.text.proofs.put_hex.Statement.{statement}
 use Rattle.text.proofs.put_hex.Tie as tie
-use Rattle.text.proofs.put_hex.Reads as reads
-use Rattle.text.proofs.put_hex.Lts as lts
-use Rattle.text.proofs.hex_digit.Reads as hex-digit-reads
 
 abbrev Inv-loop : tie.InvT-loop
 Inv-loop s₀ at bytes next₀ i₀ s next i =
@@ -58,8 +55,11 @@ loop-again : tie.Need-loop-again Inv-loop μ-loop
 loop-again c = (
   omega arith,
   omega arith,
-  simp length-set ((c .before .before .before .before .loop) .inv .2),
-  hex-step ((c .before .before .before .before .before .before .before) .args .s .now) ((c .before .before .before .before .loop) .s) ((c .before .before .before .before .before .before .before) .args .bytes .now) ((c .before .before .before .before .before .before .before) .args .at) ((c .before .before .before .before .loop) .next) ((c .before .before .before .before .loop) .i) ((c .before .hex-digit) .result) ((c .hex-digit2) .result) ((c .before .before .before .loop-test) .taken) ((c .before .before .before .before .loop) .inv .1) ((c .before .before .before .before .before .before .before) .pre) ((c .before .before .before .before .loop) .inv .3) ((c .before .hex-digit) .ensures) ((c .hex-digit2) .ensures),
+  simp length-set (c .before .before .before .before .loop .inv .2),
+  let l = c .before .before .before .before in
+      let e = l .before .before .before in
+      hex-step (e .args .s .now) (e .args .bytes .now) (e .args .at) (l .loop .i) (c .before .before .before .loop-test .taken)
+      (l .loop .inv .1) (e .pre) (l .loop .inv .3) (c .before .hex-digit .ensures) (c .hex-digit2 .ensures),
 )
 
 same-length : tie.Need-same-length Inv-loop μ-loop
@@ -67,11 +67,13 @@ same-length c = search needs
 
 returns : tie.Need-returns Inv-loop μ-loop
 returns c =
-    let n : (c .before .loop) .i ≡ length ((c .before .before .before .before) .args .bytes .now) = omega arith in
-    let w : take ((c .before .loop) .i) ((c .before .before .before .before) .args .bytes .now) ≡ (c .before .before .before .before) .args .bytes .now = rw n (take-length ((c .before .before .before .before) .args .bytes .now)) in
+    let l = c .before .loop in
+    let a = c .before .before .before .before .args in
+    let n : l .i ≡ length (a .bytes .now) = omega arith in
+    let w : take (l .i) (a .bytes .now) ≡ a .bytes .now = rw n (take-length (a .bytes .now)) in
     record {
-      is = (c .before .loop) .inv .3 ∙ ap (λ (l : List ℕ). splice ((c .before .before .before .before) .args .s .now) ((c .before .before .before .before) .args .at) (hex l)) w;
-      ends = omega (arith, length-hex ((c .before .before .before .before) .args .bytes .now));
+      is = l .inv .3 ∙ ap (λ (bs : List ℕ). splice (a .s .now) (a .at) (hex bs)) w;
+      ends = omega (arith, length-hex (a .bytes .now));
     }
 
 pub put-hex-spec : {M : Type 1} → statement M

@@ -32,11 +32,15 @@ same-length c = search needs
 
 returns : tie.Need-returns
 returns c =
-    let a = (c .before .before .before .before .before .before .before .before .before) .args in
+    let at-put4 = c .before .before .before .before .before .before in
+    let a = at-put4 .before .before .before .args in
+    let high = be 4 (a .v / 4294967296) in
+    let low = be 4 (a .v % 4294967296) in
     let n = length-be 4 (a .v / 4294967296) in
     let m = length-be 4 (a .v % 4294967296) in
-    let w = splice-splice (now (a .s)) (a .at) (be 4 (a .v / 4294967296)) (be 4 (a .v % 4294967296)) (omega arith) in
-    record { is = rw (eight-bytes (a .v)) ((c .before .before .put42) .ensures .is ∙ (ap (λ l. splice l (a .at + 4) (be 4 (a .v % 4294967296))) ((c .before .before .before .before .before .before .put4) .ensures .is) ∙ rw n at w)); small = omega arith }
+    let both = splice-splice (now (a .s)) (a .at) high low (omega arith) in
+    let first = ap (λ l. splice l (a .at + 4) low) (at-put4 .put4 .ensures .is) in
+    record { is = rw (eight-bytes (a .v)) (c .before .before .put42 .ensures .is ∙ (first ∙ rw n at both)); small = omega arith }
 
 pub put8-spec : {M : Type 1} → statement M
 put8-spec =

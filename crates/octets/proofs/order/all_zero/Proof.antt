@@ -4,7 +4,7 @@ use Prim.Native.Nat.{_-_, _≤_}
 use native.Mathlib.Omega.{arith}
 use lib.ListN.{drop, length}
 use borrow.Author.Needs.{needs}
-use Rattle.rules.specs.Image.{allZero}
+use Rattle.rules.specs.Bytes.{allZero}
 use Rattle.octets.proofs.ByteOrderLaws.{zero-next, zero-none, zero-stop}
 use Rattle.octets.proofs.order.all_zero.Statement.{statement}
 use Rattle.octets.proofs.order.all_zero.Tie as tie

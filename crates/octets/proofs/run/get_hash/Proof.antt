@@ -5,6 +5,7 @@ use native.Mathlib.Omega.{arith}
 use lib.ListN.{length-drop, length-take}
 use borrow.Author.Needs.{needs}
 use Rattle.rules.specs.Bytes.{part}
+use Rattle.rules.specs.Room.{hashSize}
 use Rattle.octets.proofs.SpliceLaws.{splice-whole}
 use Rattle.octets.proofs.run.get_hash.Statement.{statement}
 use Rattle.octets.proofs.run.get_hash.Tie as tie
@@ -31,7 +32,7 @@ returns : tie.Need-returns
 unfolding part
 returns c =
     let a = (c .before .before .before .before .before) .args in
-    let n : a .at + 16 - a .at ≡ 16 = omega arith in
+    let n : a .at + hashSize - a .at ≡ hashSize = omega arith in
     let e = rw n at ((c .before .copy-in) .ensures ∙ splice-whole _ _ (simp (length-take, length-drop) (omega arith))) in
     record { is = e; size = rw e (simp (length-take, length-drop) (omega arith)) }
 

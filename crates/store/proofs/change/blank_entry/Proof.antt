@@ -1,6 +1,6 @@
 -- `change::blank_entry` meets its contract. Assumes nothing.
 use mathlib.Core.Path.{refl}
-use Rattle.store.proofs.ChangeLaws.{blank-bytes}
+use Rattle.store.proofs.RoundLaws.{blank-bytes}
 use borrow.Author.Needs.{needs}
 use Rattle.store.proofs.change.blank_entry.Statement.{statement}
 use Rattle.store.proofs.change.blank_entry.Tie as tie
@@ -18,7 +18,9 @@ copy-in-requires : tie.Need-copy-in-requires
 copy-in-requires c κs = search needs
 
 returns : tie.Need-returns
-returns c = blank-bytes _ _ _ ((c .before .before .before .before) .pre) refl ((c .before .copy-in) .ensures)
+returns c =
+    let at-copy-in = c .before in
+    blank-bytes _ _ _ (at-copy-in .before .before .before .pre) refl (at-copy-in .copy-in .ensures)
 
 pub blank-entry-spec : {M : Type 1} → statement M
 blank-entry-spec =

@@ -12,7 +12,8 @@ same-length c = search needs
 
 returns : tie.Need-returns
 returns c =
-    fresh-holds _ _ ((c .before .before .before .before .before) .pre) ((c .before .before .clear) .ensures)
+    let at-clear = c .before .before in
+    fresh-holds _ _ (at-clear .before .before .before .pre) (at-clear .clear .ensures)
 
 pub make-fresh-spec : {M : Type 1} → statement M
 make-fresh-spec = tie.close (tie.spec clear-requires same-length returns)

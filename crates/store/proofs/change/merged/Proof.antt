@@ -9,11 +9,15 @@ kept-requires c κs = search needs
 
 returns : tie.Need-returns
 returns c =
-    merged-known _ _ _ ((c .before .before .before .before) .pre) ((c .before .before .kept) .ensures) ((c .before .if1) .taken)
+    let at-if1 = c .before in
+    let at-kept = at-if1 .before in
+    merged-known _ _ _ (at-kept .before .before .pre) (at-kept .kept .ensures) (at-if1 .if1 .taken)
 
 returns-2 : tie.Need-returns-2
 returns-2 c =
-    merged-unknown _ _ _ ((c .before .before .before .before) .pre) ((c .before .before .kept) .ensures) ((c .before .if1) .left)
+    let at-if1 = c .before in
+    let at-kept = at-if1 .before in
+    merged-unknown _ _ _ (at-kept .before .before .pre) (at-kept .kept .ensures) (at-if1 .if1 .left)
 
 pub merged-spec : {M : Type 1} → statement M
 merged-spec = tie.close (tie.spec kept-requires returns returns-2)

@@ -1,37 +1,36 @@
 -- `change::set_sequences` meets its contract. Assumes nothing.
-use native.Mathlib.Omega.{arith}
-use Rattle.store.proofs.EntryLaws.{standing}
+use Rattle.store.proofs.EntryLaws.{standing, entry-held}
 use Rattle.store.proofs.ChangeLaws.{seq-holds}
+use native.Mathlib.Omega.{arith}
 use borrow.Author.Needs.{needs}
 use Rattle.store.proofs.change.set_sequences.Statement.{statement}
 use Rattle.store.proofs.change.set_sequences.Tie as tie
 
 entry-place-requires : tie.Need-entry-place-requires
-entry-place-requires c κs =
-    let q = standing _ ((c .before .before) .pre .laid) in
-    omega (arith, (c .before .before) .pre .within)
+entry-place-requires c κs = search needs
 
-add-put4 : tie.Need-add-put4
-add-put4 c = search needs
+put-own-requires : tie.Need-put-own-requires
+put-own-requires c κs = entry-held _ _ _ (c .before .before .before .pre) (c .entry-place .ensures) .within
 
-put4-requires : tie.Need-put4-requires
-put4-requires c κs =
-    let q = standing _ ((c .before .before .before) .pre .laid) in
-    omega (arith, (c .before .before .before) .pre .within)
-
-put4-requires-2 : tie.Need-put4-requires-2
-put4-requires-2 c κs =
-    let q = standing _ ((c .before .before .before .before .before .before .before) .pre .laid) in
-    omega (arith, (c .before .before .b) .given)
+put-sequence-requires : tie.Need-put-sequence-requires
+put-sequence-requires c κs =
+    let at-b = c .before .before in
+    let start = at-b .before .before .before .before .before in
+    let q = standing _ (start .pre .laid) in
+    omega (arith, at-b .b .given)
 
 same-length : tie.Need-same-length
 same-length c = search needs
 
 returns : tie.Need-returns
 returns c =
-    seq-holds _ _ _ _ _ _ ((c .before .before .before .before .before .before .before .before .before .before) .pre) (omega (arith, (c .before .before .before .before .before .before .before .before .before .before) .good)) ((c .before .before .before .before .before .before .before .entry-place) .ensures) ((c .before .before .before .before .before .before .put4) .ensures .is) ((c .before .before .put42) .ensures .is)
+    let at-put-sequence = c .before .before in
+    let at-put-own = at-put-sequence .before .before .before .before in
+    let at-entry-place = at-put-own .before in
+    let start = at-entry-place .before .before .before in
+    seq-holds _ _ _ _ _ _ (start .pre) (omega (arith, start .good)) (at-entry-place .entry-place .ensures) (at-put-own .put-own .ensures .is) (at-put-sequence .put-sequence .ensures .is)
 
 pub set-sequences-spec : {M : Type 1} → statement M
 set-sequences-spec =
     tie.close
-    (tie.spec entry-place-requires add-put4 put4-requires put4-requires-2 same-length returns)
+    (tie.spec entry-place-requires put-own-requires put-sequence-requires same-length returns)

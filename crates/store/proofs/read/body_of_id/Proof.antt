@@ -1,37 +1,23 @@
 -- `read::body_of_id` meets its contract. Assumes nothing.
-use Rattle.store.proofs.BodyLaws.{found-body, absent-body}
-use Rattle.store.proofs.PlaceLaws.{id-found}
--- `read::body_of_id` meets its contract. Assumes nothing.
-use mathlib.Core.Path.{sym, _∙_}
+use mathlib.Core.Path.{sym}
 use borrow.Author.Needs.{needs}
+use Rattle.store.proofs.BodyLaws.{looked, place-body}
 use Rattle.store.proofs.read.body_of_id.Statement.{statement}
 use Rattle.store.proofs.read.body_of_id.Tie as tie
 
 find-document-requires : tie.Need-find-document-requires
-find-document-requires c κs = (c .before .before) .pre
+find-document-requires c κs = search needs
 
-enum-known-d : tie.Need-enum-known-d
-enum-known-d c = search needs
-
-body-of-requires : tie.Need-body-of-requires
-body-of-requires c κs =
-    let g = (c .before .d) .given in
-    record { laid = (c .before .before .before .before .before .before) .pre; within = id-found (g .0 .0) _ _ (sym ((c .before .before .before .find-document) .ensures) ∙ g .1) .within }
-
-enum-told : tie.Need-enum-told
-enum-told c = search needs
+body-at-requires : tie.Need-body-at-requires
+body-at-requires c κs =
+    let start = c .before .before .before in
+    looked (start .args .id .now) (start .pre) (sym (c .find-document .ensures))
 
 returns : tie.Need-returns
 returns c =
-    let g = (c .before .before .d) .given in
-    found-body _ _ (g .0 .0) _ (sym ((c .before .before .before .before .find-document) .ensures) ∙ g .1) ((c .body-of) .ensures)
-
-returns-2 : tie.Need-returns-2
-returns-2 c =
-    let g = (c .enum-told) .given in
-    absent-body _ _ (g .0 .0) ((c .before .before .before .before .before) .pre) (sym ((c .before .before .find-document) .ensures) ∙ g .1)
+    let at-find = c .before in
+    let start = at-find .before .before .before in
+    place-body (start .args .id .now) (start .pre) (sym (at-find .find-document .ensures)) (c .body-at .ensures)
 
 pub body-of-id-spec : {M : Type 1} → statement M
-body-of-id-spec =
-    tie.close
-    (tie.spec find-document-requires enum-known-d body-of-requires enum-told returns returns-2)
+body-of-id-spec = tie.close (tie.spec find-document-requires body-at-requires returns)

@@ -1,10 +1,9 @@
-use Rattle.store.proofs.EntryLaws.{first-none, first-more}
 -- `read::first_row` meets its contract. The sum is that of the documents passed. Assumes nothing.
-use Rattle.store.specs.Documents.{documentsOf, firstRow}
-use Prim.Native.Nat.{_≤_, _-_}
 use mathlib.Core.Path.{_≡_, refl, ap, _∙_}
+use Prim.Native.Nat.{_≤_, _-_}
+use Rattle.store.specs.Documents.{documentsOf, firstRow, HasDocument}
+use Rattle.store.proofs.EntryLaws.{first-none, first-more, standing, entry-held}
 use native.Mathlib.Omega.{arith}
-use Rattle.store.proofs.EntryLaws.{standing, entry-held}
 use borrow.Author.Needs.{needs}
 use Rattle.store.proofs.read.first_row.Statement.{statement}
 use Rattle.store.proofs.read.first_row.Tie as tie
@@ -20,12 +19,17 @@ loop-holds c = (omega arith, first-none _ _ _ refl refl)
 
 row-count-requires : tie.Need-row-count-requires Inv-loop μ-loop
 row-count-requires c κs =
-    record { laid = (c .before .before .before) .pre .laid; within = omega (arith, (c .before .before .before) .pre .within) }
+    let start = c .before .before .before in
+    record { laid = start .pre .laid; within = omega (arith, start .pre .within) }
 
 add-sum : tie.Need-add-sum Inv-loop μ-loop
 add-sum c =
-    let q = standing _ ((c .before .before .before .before) .pre .laid) in
-    let f = entry-held _ ((c .before .before .loop) .i) (record { laid = (c .before .before .before .before) .pre .laid; within = omega (arith, (c .before .before .before .before) .pre .within) }) in
+    let at-loop = c .before .before in
+    let start = at-loop .before .before in
+    let i = at-loop .loop .i in
+    let h : HasDocument (start .args .b .now) i = record { laid = start .pre .laid; within = omega (arith, start .pre .within) } in
+    let q = standing _ (start .pre .laid) in
+    let f = entry-held _ _ _ h refl in
     omega arith
 
 add-i : tie.Need-add-i Inv-loop μ-loop
@@ -36,12 +40,14 @@ loop-less c = search needs
 
 loop-again : tie.Need-loop-again Inv-loop μ-loop
 loop-again c =
-    (omega arith, first-more _ ((c .before .before .loop) .i) _ _ (omega (arith, (c .before .before .before .before) .pre .within)) ((c .before .before .loop) .inv .1) ((c .row-count) .ensures))
+    let at-loop = c .before .before in
+    (omega arith, first-more _ (at-loop .loop .i) _ _ (omega (arith, at-loop .before .before .pre .within)) (at-loop .loop .inv .1) (c .row-count .ensures))
 
 returns : tie.Need-returns Inv-loop μ-loop
 returns c =
-    let e : (c .before .loop) .i ≡ (c .before .before .before) .args .d = omega arith in
-    (c .before .loop) .inv .1 ∙ ap (firstRow _) e
+    let at-loop = c .before in
+    let e : at-loop .loop .i ≡ at-loop .before .before .args .d = omega arith in
+    at-loop .loop .inv .1 ∙ ap (firstRow _) e
 
 pub first-row-spec : {M : Type 1} → statement M
 first-row-spec =

@@ -1,27 +1,20 @@
 -- `read::row_count` meets its contract. Assumes nothing.
 use mathlib.Core.Path.{_∙_}
-use native.Mathlib.Omega.{arith}
-use Rattle.store.proofs.EntryLaws.{standing, entry-held}
+use Rattle.store.proofs.EntryLaws.{entry-held}
 use borrow.Author.Needs.{needs}
 use Rattle.store.proofs.read.row_count.Statement.{statement}
 use Rattle.store.proofs.read.row_count.Tie as tie
 
 entry-place-requires : tie.Need-entry-place-requires
-entry-place-requires c κs =
-    let q = standing _ ((c .before) .pre .laid) in
-    omega (arith, (c .before) .pre .within)
+entry-place-requires c κs = search needs
 
-add-get2 : tie.Need-add-get2
-add-get2 c = search needs
-
-get2-requires : tie.Need-get2-requires
-get2-requires c κs =
-    let q = standing _ ((c .before .before) .pre .laid) in
-    omega (arith, (c .before .before) .pre .within)
+rows-requires : tie.Need-rows-requires
+rows-requires c κs = entry-held _ _ _ (c .before .before .pre) (c .entry-place .ensures) .within
 
 returns : tie.Need-returns
 returns c =
-    (c .get2) .ensures .is ∙ entry-held _ _ ((c .before .before .before) .pre) .rows _ ((c .before .entry-place) .ensures)
+    let at-entry-place = c .before in
+    c .rows .ensures .is ∙ entry-held _ _ _ (at-entry-place .before .before .pre) (at-entry-place .entry-place .ensures) .entry .rows
 
 pub row-count-spec : {M : Type 1} → statement M
-row-count-spec = tie.close (tie.spec entry-place-requires add-get2 get2-requires returns)
+row-count-spec = tie.close (tie.spec entry-place-requires rows-requires returns)

@@ -12,10 +12,10 @@ enum-known-best : tie.Need-enum-known-best
 enum-known-best c = search needs
 
 returns : tie.Need-returns
-returns c = let a = (c .before .before) .args in sym (ap (λ w. keep w (a .i)) (c .enum-told .given .1))
+returns c = let a = c .before .before .args in sym (ap (λ w. keep w (a .i)) (c .enum-told .given .1))
 
 returns-2 : tie.Need-returns-2
-returns-2 c = let a = (c .before .before .before) .args in sym (ap (λ w. keep w (a .i)) ((c .before .best .given .1)))
+returns-2 c = let a = c .before .before .before .args in sym (ap (λ w. keep w (a .i)) (c .before .best .given .1))
 
 pub first-of-spec : {M : Type 1} → statement M
 first-of-spec = tie.close (tie.spec enum-told enum-known-best returns returns-2)

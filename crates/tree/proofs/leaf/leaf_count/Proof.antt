@@ -11,13 +11,13 @@ use Rattle.tree.proofs.leaf.leaf_count.Tie as tie
 use Rattle.tree.specs.Table.{treeAt}
 
 abbrev Inv-loop : tie.InvT-loop
-Inv-loop s base n i₀ count₀ i count = (i ≤ n) × (count ≤ i) × (count ≡ length (leaves (treeAt base i s)))
+Inv-loop s body rows₀ i₀ count₀ i count = (i ≤ body .rows) × (count ≤ i) × (count ≡ length (leaves (treeAt (body .base) i s)))
 
 abbrev μ-loop : tie.MeasureT-loop
-μ-loop s base n i₀ count₀ i count = n - i
+μ-loop s body rows₀ i₀ count₀ i count = body .rows - i
 
 loop-holds : tie.Need-loop-holds Inv-loop μ-loop
-loop-holds c = let a = (c .before) .args in (omega arith, omega arith, sym (count-none (a .base) (a .s .now)))
+loop-holds c = let a = c .before .args in (omega arith, omega arith, sym (count-none (a .body .base) (a .s .now)))
 
 kind-at-requires : tie.Need-kind-at-requires Inv-loop μ-loop
 kind-at-requires c κs = search needs
@@ -33,10 +33,13 @@ loop-less c = search needs
 
 loop-again : tie.Need-loop-again Inv-loop μ-loop
 loop-again c =
-    let a = (c .before .before .before .before .before .before) .args in
-    let l = (c .before .before .before .before .loop) in
-    let k = sym ((c .before .before .kind-at) .ensures) ∙ (c .enum-told) .given .1 in
-    (omega arith, omega arith, l .inv .2 ∙ sym (count-inner (a .base) (l .i) (a .s .now) k))
+    let c₁ = c .before .before in
+    let c₂ = c₁ .before .before in
+    let c₃ = c₂ .before .before in
+    let a = c₃ .args in
+    let l = c₂ .loop in
+    let k = sym (c₁ .kind-at .ensures) ∙ c .enum-told .given .1 in
+    (omega arith, omega arith, l .inv .2 ∙ sym (count-inner (a .body .base) (l .i) (a .s .now) k))
 
 enum-told-2 : tie.Need-enum-told-2 Inv-loop μ-loop
 enum-told-2 c = search needs
@@ -49,18 +52,21 @@ loop-less-2 c = search needs
 
 loop-again-2 : tie.Need-loop-again-2 Inv-loop μ-loop
 loop-again-2 c =
-    let a = (c .before .before .before .before .before .before) .args in
-    let l = (c .before .before .before .before .loop) in
-    let g = (c .enum-told2) .given in
-    let k = sym ((c .before .before .kind-at) .ensures) ∙ g .1 in
-    let m = count-leaf (a .base) (l .i) (a .s .now) (g .0 .0) k in
+    let c₁ = c .before .before in
+    let c₂ = c₁ .before .before in
+    let c₃ = c₂ .before .before in
+    let a = c₃ .args in
+    let l = c₂ .loop in
+    let g = c .enum-told2 .given in
+    let k = sym (c₁ .kind-at .ensures) ∙ g .1 in
+    let m = count-leaf (a .body .base) (l .i) (a .s .now) (g .0 .0) k in
     (omega arith, omega arith, ap (λ x. x + 1) (l .inv .2) ∙ sym m)
 
 returns : tie.Need-returns Inv-loop μ-loop
 returns c =
-    let a = (c .before .before .before) .args in
-    let l = (c .before .loop) in
-    let e : l .i ≡ a .n = omega arith in
+    let a = c .before .before .before .args in
+    let l = c .before .loop in
+    let e : l .i ≡ a .body .rows = omega arith in
     rw e at (l .inv .2)
 
 pub leaf-count-spec : {M : Type 1} → statement M

@@ -36,14 +36,21 @@ put8-requires : tie.Need-put8-requires
 put8-requires c κs = simp length-set (omega arith)
 
 same-length : tie.Need-same-length
-same-length c = omega (arith, simp length-set at ((c .before .before .put8) .kept .0))
+same-length c = omega (arith, simp length-set at (c .before .before .put8 .kept .0))
 
 returns : tie.Need-returns
 returns c =
-    let a = (c .before .before .before .before .before .before .before .before .before .before .before .before .before .before .before .before .before) .args in
-    let h = (c .before .before .before .before .before .before .before .before .put-hash) .ensures .size in
+    let c₁ = c .before .before in
+    let c₂ = c₁ .before in
+    let c₃ = c₂ .before .before in
+    let c₄ = c₃ .before .before .before in
+    let c₅ = c₄ .before .before .before .before in
+    let c₆ = c₅ .before .before .before .before .before in
+    let a = c₆ .args in
+    let h = c₄ .put-hash .ensures .size in
+    let written = leaf-written (now (a .out)) (a .at) (a .rev) (a .content) h (omega (arith, c₆ .pre)) in
     record {
-      is = (c .before .before .put8) .ensures .is ∙ rw ((c .before .before .before .content-label) .ensures, (c .before .before .before .before .before .content-kind) .ensures, (c .before .before .before .before .before .before .before .before .put-hash) .ensures .is, (c .before .before .before .before .before .before .before .before .before .before .before .before .put4) .ensures .is) (leaf-written (now (a .out)) (a .at) (a .rev) (a .content) h (omega arith));
+      is = c₁ .put8 .ensures .is ∙ rw (c₂ .content-label .ensures, c₃ .content-kind .ensures, c₄ .put-hash .ensures .is, c₅ .put4 .ensures .is) written;
       size = length-leaf (a .rev) (a .content) h;
     }
 

@@ -17,9 +17,6 @@ add-put-hash c = search needs
 put-hash-requires : tie.Need-put-hash-requires
 put-hash-requires c κs = search needs
 
-add-put-marks : tie.Need-add-put-marks
-add-put-marks c = search needs
-
 kind-byte-requires : tie.Need-kind-byte-requires
 kind-byte-requires c κs = search needs
 
@@ -53,18 +50,28 @@ same-length c = search needs
 returns : tie.Need-returns
 unfolding meaning
 returns c =
-    let a = (c .before .before .before .before .before .before .before .before .before .before .before .before .before .before .before .before .before .before .before .before .before .before .before .before .before .before .before .before .before) .args in
+    let c₁ = c .before .before in
+    let c₂ = c₁ .before in
+    let c₃ = c₂ .before .before .before .before in
+    let c₄ = c₃ .before in
+    let c₅ = c₄ .before .before .before .before in
+    let c₆ = c₅ .before in
+    let c₇ = c₆ .before in
+    let c₈ = c₇ .before .before .before .before in
+    let c₉ = c₈ .before .before .before .before in
+    let c₁₀ = c₉ .before .before .before .before .before .before .before in
+    let a = c₁₀ .args in
     let row = a .row in
-    let ph = (c .before .before .before .before .before .before .before .before .parent-bytes) .ensures in
     let fits : FitsRow (meaning row) = record {
-      number = (c .before .before .before .before .before .before .before .before .before .before .before .before .before .before .before .before .before .before .before .before .before .before .put4) .ensures .small;
-      hash = (c .before .before .before .before .before .before .before .before .before .before .before .before .before .before .before .before .before .before .put-hash) .ensures .size;
-      parent = parent-fits (row .rev) (row .known) (row .parent) _ ph;
-      content = content-fits (row .kind) (rw ((c .before .before .before .label-of) .ensures) at ((c .before .before .put8) .ensures .small));
+      number = c₉ .put4 .ensures .small;
+      hash = c₈ .put-hash .ensures .size;
+      parent = parent-fits (row .rev) (row .known) (row .parent) _ (c₄ .parent-bytes .ensures);
+      content = content-fits (row .kind) (rw (c₂ .label-of .ensures) at (c₁ .put8 .ensures .small));
     } in
+    let written = row-written (now (a .s)) (a .at) (meaning row) fits (omega (arith, c₁₀ .pre)) in
     record {
-      is = (c .before .before .put8) .ensures .is ∙ rw ((c .before .before .before .before .before .before .before .put-hash2) .ensures .is, (c .before .before .before .before .before .before .before .before .before .before .before .before .put-marks) .ensures, (c .before .before .before .before .before .before .before .before .before .before .before .before .before .before .before .before .before .before .put-hash) .ensures .is, (c .before .before .before .before .before .before .before .before .before .before .before .before .before .before .before .before .before .before .before .before .before .before .put4) .ensures .is, (c .before .before .before .before .before .before .before .before .before .before .before .before .before .before .kind-byte) .ensures, (c .before .before .before .before .before .before .before .before .before .before .before .before .before .flag-of) .ensures, ph .is, (c .before .before .before .label-of) .ensures)
-          (row-written (now (a .s)) (a .at) (meaning row) fits (omega (arith, (c .before .before .before .before .before .before .before .before .before .before .before .before .before .before .before .before .before .before .before .before .before .before .before .before .before .before .before .before .before) .pre)));
+      is = c₁ .put8 .ensures .is ∙ rw (c₃ .put-hash2 .ensures .is, c₅ .put-marks .ensures, c₈ .put-hash .ensures .is, c₉ .put4 .ensures .is)
+          (rw (c₇ .kind-byte .ensures, c₆ .flag-of .ensures, c₄ .parent-bytes .ensures .is, c₂ .label-of .ensures) written);
       fits = fits;
     }
 
@@ -75,7 +82,6 @@ put-row-spec =
     put4-requires
     add-put-hash
     put-hash-requires
-    add-put-marks
     kind-byte-requires
     flag-of-requires
     put-marks-requires

@@ -14,7 +14,8 @@ use Rattle.rules.specs.Union.{In, given, held, both, IsUnion, SameButSeq}
 use Rattle.rules.specs.Write.{Write, gives, next, added, adds, writeRefusals, write, isAddition, lacksParent}
 use Rattle.rules.proofs.OrderLaws.{bytesOrder}
 use Rattle.rules.proofs.MapLaws.{none≢some, some-inj, ext}
-use Rattle.union.specs.Said.{Leaves, Knows}
+use Rattle.rules.proofs.GivenLaws.{adds-any}
+use Rattle.union.specs.Said.{Knows, Left}
 use Rattle.union.proofs.Lists.{any-none}
 use Rattle.union.proofs.Trees.{Entry}
 use Rattle.union.proofs.Sets.{Both, GivenBy, _⊎w_, both-from, both-to, closed-w, things, within-all, within-sub}
@@ -66,9 +67,9 @@ module _ (r : Replica) (w : Write) (k : IsReplica r) (ok : firstThat (writeRefus
       let here : documentOf (write r w .1) (w .id) ≡ documentOf (added r w) (w .id) = rw (accepted r w ok, e) refl in
       ap (λ (z : Document). z .seq) (some-inj (sym f ∙ (here ∙ added-here r w)))
 
-  pub leaves : Leaves r w (write r w .1)
+  pub write-left : Left r w (write r w .1)
   unfolding after added
-  leaves = record {
+  write-left = record {
     union = is-union;
     unchanged = λ e. rw (accepted r w ok, e) refl;
     changed = λ e. rw (accepted r w ok, e) refl;
@@ -79,8 +80,8 @@ module _ (r : Replica) (w : Write) (k : IsReplica r) (ok : firstThat (writeRefus
   -- what `adds` tests, over what is given and held
   knows : adds r w ≡ false → Knows r w
   knows e = record {
-    revisions = λ v m. subst (λ (s : Replica). Known (treeOf s (w .id)) v) (leaves .unchanged e) (is-union .revisions (w .id) v .1 (inr m));
-    parents = λ v p m. subst (λ (s : Replica). HasParent (treeOf s (w .id)) v p) (leaves .unchanged e) (is-union .parents (w .id) v p .1 (inr m));
+    revisions = λ v m. subst (λ (s : Replica). Known (treeOf s (w .id)) v) (write-left .unchanged e) (is-union .revisions (w .id) v .1 (inr m));
+    parents = λ v p m. subst (λ (s : Replica). HasParent (treeOf s (w .id)) v p) (write-left .unchanged e) (is-union .parents (w .id) v p .1 (inr m));
   }
 
 lacks-none : (given held : Option Revision) → ((p : Revision) → given ≡ some p → held ≡ some p) → lacksParent given held ≡ false
@@ -88,8 +89,8 @@ lacks-none none held h = refl
 lacks-none (some p) held h = rw (h p refl) refl
 
 quiet : (r : Replica) (w : Write) → Knows r w → adds r w ≡ false
-unfolding adds isAddition
-quiet r w k = any-none (isAddition (treeOf r (w .id))) (gives w) each
+unfolding isAddition
+quiet r w k = adds-any r w ∙ any-none (isAddition (treeOf r (w .id))) (gives w) each
   where
     each : (x : Entry) → In x (gives w) → isAddition (treeOf r (w .id)) x ≡ false
     each x m =
@@ -120,11 +121,11 @@ same-document r s i t f g = go (documentOf r i) refl (documentOf s i) refl
         let z = f d p in
         p ∙ (ap some (seq-path d (z .0) (z .2) (sym (ap treeIn p) ∙ (t ∙ ap treeIn (z .1)))) ∙ sym (z .1))
 
-module _ (r : Replica) (w : Write) (a b : Replica) (ka : IsReplica a) (kb : IsReplica b) (la : Leaves r w a) (lb : Leaves r w b) (new : adds r w ≡ true) where
+module _ (r : Replica) (w : Write) (a b : Replica) (ka : IsReplica a) (kb : IsReplica b) (la : Left r w a) (lb : Left r w b) (new : adds r w ≡ true) where
   same : SameButSeq a b
   same = one-union a b (both (held r) (given (w ∷ []))) ka kb (la .union) (lb .union)
 
-  over : (a b : Replica) → Leaves r w a → Leaves r w b → (d : Document) → documentOf a (w .id) ≡ some d → (e : Document) × (documentOf b (w .id) ≡ some e)
+  over : (a b : Replica) → Left r w a → Left r w b → (d : Document) → documentOf a (w .id) ≡ some d → (e : Document) × (documentOf b (w .id) ≡ some e)
   over a b la lb d f = lb .union .documents (w .id) .1 (la .union .documents (w .id) .0 (d, f))
 
   here : documentOf a (w .id) ≡ documentOf b (w .id)
@@ -144,8 +145,8 @@ module _ (r : Replica) (w : Write) (a b : Replica) (ka : IsReplica a) (kb : IsRe
       λ i. record { seq = p i; documents = q i }
 
 -- "leaves one possible outcome": replicas that a write can leave are equal
-pub leaves-one : (r : Replica) (w : Write) (a b : Replica) → IsReplica a → IsReplica b → Leaves r w a → Leaves r w b → a ≡ b
-leaves-one r w a b ka kb la lb = go (adds r w) refl
+pub left-one : (r : Replica) (w : Write) (a b : Replica) → IsReplica a → IsReplica b → Left r w a → Left r w b → a ≡ b
+left-one r w a b ka kb la lb = go (adds r w) refl
   where
     go : (c : Bool) → adds r w ≡ c → a ≡ b
     go true e = changed-same r w a b ka kb la lb e
