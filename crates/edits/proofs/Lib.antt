@@ -1,4 +1,5 @@
 -- Laws of the edit.
+pub mod EditLaws
 pub mod ParentLaws
 pub mod ChildLaws
 pub mod DoneLaws

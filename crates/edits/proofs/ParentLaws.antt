@@ -1,9 +1,9 @@
 -- The parent that an edit takes and the rule on it, from the rows of its document. Assumes nothing.
-use mathlib.Core.Path.{_≡_, refl, sym, ap, _∙_}
-use mathlib.Core.Bool.{Bool, true, false, not}
+use mathlib.Core.Path.{_≡_, refl, sym, ap, _∙_, subst}
+use mathlib.Core.Bool.{Bool, true, false, not, _&&_, _||_}
 use mathlib.Core.List.{List}
 use mathlib.Core.Option.{Option, none, some}
-use Prim.Native.Nat.{ℕ, _+_, _*_, _<_}
+use Prim.Native.Nat.{ℕ, suc, _+_, _<_}
 use native.Mathlib.Numerals.{add-one}
 use native.Mathlib.Omega.{arith}
 use lib.Dec.{eqb}
@@ -12,108 +12,151 @@ use borrow.Author.Tests.{eq-eqb, ne-eqb, eqb-false}
 use Rattle.rules.specs.declared.Content.{Content}
 use Rattle.rules.specs.declared.Content.the-variants.{Live, Deleted}
 use Rattle.rules.specs.declared.Revision.{Revision}
-use Rattle.rules.specs.Bytes.{pieces}
-use Rattle.rules.specs.Edit.{contentIn, isLeaf, deletedWinner}
-use Rattle.rules.specs.Image.{rowSize}
-use Rattle.rules.specs.Read.{leaves, highest, winner}
-use Rattle.rules.specs.Replica.{Node, Tree}
-use Rattle.rules.specs.Room.{last}
+use Rattle.rules.specs.declared.RevNumber.{RevNumber}
+use Rattle.rules.specs.Choice.{pick, maybe}
+use Rattle.rules.specs.Edit.{Edit, contentIn, isLeaf, deletedWinner, parentOf, parentRule, newNumber, lastNumber}
+use Rattle.rules.specs.Map.{Ascending}
+use Rattle.rules.specs.Order.{orderRev}
+use Rattle.rules.specs.Read.{LeafOf, isLive, isDeletion}
+use Rattle.rules.specs.Replica.{Id, Node, Tree, Document, Replica, documentOf, treeOf}
+use Rattle.rules.specs.Replica as rules
+use Rattle.rules.specs.Room.{numberMost}
 use Rattle.rules.specs.Write.{isNone}
-use Rattle.rules.proofs.MapLaws.{some-inj}
-use Rattle.tree.specs.declared.row.Kind.{Kind}
-use Rattle.tree.specs.declared.row.Kind.the-variants.{Leaf}
+use Rattle.tree.specs.declared.leaf.Winner.{Winner}
+use Rattle.tree.specs.declared.table.Body.{Body}
 use Rattle.tree.specs.declared.table.Found.the-variants.{At, Gap}
-use Rattle.tree.specs.Rows.{contentOf, rowAt, revAt}
-use Rattle.tree.specs.Table.{treeAt, placeOf}
+use Rattle.tree.specs.Leaf.{winnerSays, IsWinner}
+use Rattle.tree.specs.Rows.{contentOf, rowAt}
+use Rattle.tree.specs.Table.{treeIn, rowStart, placeOf, Searchable}
 use Rattle.tree.proofs.LeafLaws.{content-at}
 use Rattle.tree.proofs.PlaceLaws.{place-at, place-gap}
 use Rattle.tree.proofs.TableLaws.{length-tree, tree-row}
-use Rattle.reads.proofs.DocumentLaws.{WonAt}
+use Rattle.store.specs.Documents.{Shows}
+use Rattle.store.specs.Storage.{replicaOf, IsStored}
 use Rattle.edits.specs.declared.parent.Parent.{Parent}
-use Rattle.edits.specs.Edit.{parentSays, parentFrom, ruleFrom, atLast, numberAfter}
+use Rattle.edits.specs.Edit.{parentSays, IsOn, NotLast}
 
 -- ---- the winner that is a deletion
 
-module _ (base n : ℕ) (s : List ℕ) (i : ℕ) (w : WonAt base n s i) where
-  abbrev kind : Kind
-  kind = rowAt (base + i * rowSize) s .kind
-
-  content-is : (c : Content) → kind ≡ Leaf c → w .leaf .content ≡ c
-  content-is c e = sym (some-inj (ap contentOf (sym e) ∙ w .content))
-
-  pub live-wins : (m : ℕ) → kind ≡ Leaf (Live m) → deletedWinner (treeAt base n s) ≡ none
+module _ (t : Tree) (w : Winner) (is : IsWinner t w) where
+  deleted-is : deletedWinner t ≡ maybe none (λ a. pick (isDeletion (a .content)) (some (a .rev)) none) (winnerSays w)
   unfolding deletedWinner
-  live-wins m e = rw (w .is, content-is (Live m) e)
+  deleted-is = ap (maybe none (λ (a : LeafOf). pick (isDeletion (a .content)) (some (a .rev)) none)) (sym (is .is))
 
-  pub deletion-wins : kind ≡ Leaf Deleted → deletedWinner (treeAt base n s) ≡ some (revAt (base + i * rowSize) s)
-  unfolding deletedWinner
-  deletion-wins e = rw (w .is, content-is Deleted e) (ap {B = Option Revision} some (sym (w .rev)))
+  pub nobody-wins : w .known ≡ false → none ≡ deletedWinner t
+  nobody-wins k = sym (deleted-is ∙ rw k refl)
 
-nobody-wins : (base n : ℕ) (s : List ℕ) → n ≡ 0 → deletedWinner (treeAt base n s) ≡ none
-unfolding deletedWinner winner highest leaves treeAt pieces
-nobody-wins base n s e = rw e
+  pub live-wins : (m : ℕ) → w .known ≡ true → w .content ≡ Live m → none ≡ deletedWinner t
+  live-wins m k c = sym (deleted-is ∙ rw (k, c) refl)
+
+  pub deletion-wins : w .known ≡ true → w .content ≡ Deleted → some (w .rev) ≡ deletedWinner t
+  deletion-wins k c = sym (deleted-is ∙ rw (k, c) refl)
 
 -- ---- a leaf among rows
 
-module _ (base n : ℕ) (s : List ℕ) (v : Revision) (i : ℕ) where
-  abbrev t : Tree
-  t = treeAt base n s
+module _ (b : Body) (s : List ℕ) (v : Revision) (i : ℕ) where
+  pub at-row : placeOf 0 v (treeIn b s) ≡ At i → i < b .rows
+  at-row e = let p = place-at i v (treeIn b s) e .within in let z = length-tree (b .base) (b .rows) s in omega arith
 
-  pub at-row : placeOf 0 v t ≡ At i → i < n
-  at-row e = let p = place-at i v t e .within in let z = length-tree base n s in omega arith
-
-  pub leaf-by-kind : placeOf 0 v t ≡ At i → isLeaf t v ≡ not (isNone (contentOf (rowAt (base + i * rowSize) s .kind)))
+  pub leaf-by-kind : placeOf 0 v (treeIn b s) ≡ At i → isLeaf (treeIn b s) v ≡ not (isNone (contentOf (rowAt (rowStart b i) s .kind)))
   unfolding isLeaf
   leaf-by-kind e =
-      let x = tree-row base n i s (at-row e) in
-      ap (λ (o : Option Node). not (isNone (contentIn o))) (place-at i v t e .found)
-      ∙ ap (λ (o : Option Content). not (isNone o)) (ap (λ (y : Revision × Node). y .1 .content) x ∙ sym (content-at (base + i * rowSize) s))
+      let x = tree-row (b .base) (b .rows) i s (at-row e) in
+      ap (λ (o : Option Node). not (isNone (contentIn o))) (place-at i v (treeIn b s) e .found)
+      ∙ ap (λ (o : Option Content). not (isNone o)) (ap (λ (y : Revision × Node). y .1 .content) x ∙ sym (content-at (rowStart b i) s))
 
-  pub leaf-in-gap : placeOf 0 v t ≡ Gap i → isLeaf t v ≡ false
+  pub leaf-in-gap : placeOf 0 v (treeIn b s) ≡ Gap i → isLeaf (treeIn b s) v ≡ false
   unfolding isLeaf
-  leaf-in-gap e = ap (λ (o : Option Node). not (isNone (contentIn o))) (place-gap i v t e .found)
+  leaf-in-gap e = ap (λ (o : Option Node). not (isNone (contentIn o))) (place-gap i v (treeIn b s) e .found)
+
+-- ---- the document and its tree
+
+module _ {s : List ℕ} (i : Id) (k : IsStored s) where
+  -- the document is absent exactly where its tree has no revision
+  absent : isNone (documentOf (replicaOf s) i) ≡ eqb (length (treeOf (replicaOf s) i)) 0
+  unfolding treeOf
+  absent = go (documentOf (replicaOf s) i) refl
+    where
+      go : (o : Option Document) → documentOf (replicaOf s) i ≡ o → isNone o ≡ eqb (length (rules.treeIn o)) 0
+      go none e = refl
+      go (some d) e = sym (ne-eqb (length (d .tree)) 0 (λ z. let l = k .replica .documents i d e .tree .some-revision in omega arith))
+
+  ascends : Ascending orderRev (treeOf (replicaOf s) i)
+  unfolding treeOf
+  ascends = go (documentOf (replicaOf s) i) refl
+    where
+      go : (o : Option Document) → documentOf (replicaOf s) i ≡ o → Ascending orderRev (rules.treeIn o)
+      go none e = tt
+      go (some d) e = k .replica .documents i d e .tree .ascending
+
+  pub searchable : {b : Body} → Shows s b (treeOf (replicaOf s) i) → Searchable b s
+  searchable {b} w = record { within = w .within; ascending = subst (Ascending orderRev) (sym (w .tree)) ascends }
 
 -- ---- the parent and the rule
 
-module _ (base n : ℕ) (s : List ℕ) (named : Bool) (v : Revision) where
+module _ {s : List ℕ} {b : Body} {named : Bool} {v : Revision} {e : Edit} (on : IsOn s b named v e) where
+  abbrev r : Replica
+  r = replicaOf s
+
   abbrev u : Tree
-  u = treeAt base n s
+  u = treeIn b s
 
-  pub parent-named : named ≡ true → parentFrom u named v ≡ some v
-  parent-named e = rw e refl
+  pub parent-named : named ≡ true → some v ≡ parentOf r e
+  unfolding parentOf
+  parent-named q = rw (on .parent, q) refl
 
-  pub parent-absent : named ≡ false → n ≡ 0 → parentFrom u named v ≡ none
-  parent-absent e z = rw e (nobody-wins base n s z)
+  pub parent-wins : named ≡ false → deletedWinner u ≡ parentOf r e
+  unfolding parentOf
+  parent-wins q = rw (on .parent, q) (ap deletedWinner (on .shows .tree))
 
-  pub parent-wins : named ≡ false → parentFrom u named v ≡ deletedWinner u
-  parent-wins e = rw e refl
+  pub rule-named : named ≡ true → isLeaf u v ≡ parentRule r e
+  unfolding parentRule
+  rule-named q = rw (on .parent, q) (ap (λ (t : Tree). isLeaf t v) (on .shows .tree))
 
-  pub rule-named : (c : Content) → named ≡ true → ruleFrom u c named v ≡ isLeaf u v
-  rule-named c e = rw e refl
+  -- no parent is named
+  module _ (q : named ≡ false) where
+    by-content : parentRule r e ≡ (isLive (e .content) && (eqb (b .rows) 0 || not (isNone (parentOf r e))))
+    unfolding parentRule parentOf
+    by-content =
+        let z : isNone (documentOf r (e .id)) ≡ eqb (b .rows) 0 =
+        absent (e .id) (on .stored) ∙ ap (λ (n : ℕ). eqb n 0) (ap length (sym (on .shows .tree)) ∙ length-tree (b .base) (b .rows) s) in
+        rw (on .parent, q, z) refl
 
-  pub rule-deletion : (c : Content) → c ≡ Deleted → named ≡ false → ruleFrom u c named v ≡ false
-  rule-deletion c k e = rw (k, e) refl
+    pub rule-deletion : e .content ≡ Deleted → false ≡ parentRule r e
+    rule-deletion k = sym (by-content ∙ ap (λ (c : Content). isLive c && (eqb (b .rows) 0 || not (isNone (parentOf r e)))) k)
 
-  pub rule-absent : (c : Content) (m : ℕ) → c ≡ Live m → named ≡ false → n ≡ 0 → ruleFrom u c named v ≡ true
-  rule-absent c m k e z = rw (k, e, eq-eqb (length u) 0 (length-tree base n s ∙ z)) refl
+    module _ (m : ℕ) (k : e .content ≡ Live m) where
+      live : parentRule r e ≡ (eqb (b .rows) 0 || not (isNone (parentOf r e)))
+      live = by-content ∙ ap (λ (c : Content). isLive c && (eqb (b .rows) 0 || not (isNone (parentOf r e)))) k
 
-  pub rule-held : (c : Content) (m : ℕ) → c ≡ Live m → named ≡ false → (n ≡ 0 → ⊥) → ruleFrom u c named v ≡ not (isNone (parentFrom u named v))
-  rule-held c m k e z = rw (k, e, ne-eqb (length u) 0 (λ q. z (sym (length-tree base n s) ∙ q))) refl
+      pub rule-absent : b .rows ≡ 0 → true ≡ parentRule r e
+      rule-absent z = sym (live ∙ ap (λ (a : Bool). a || not (isNone (parentOf r e))) (eq-eqb (b .rows) 0 z))
+
+      pub rule-held : (b .rows ≡ 0 → ⊥) → not (isNone (parentOf r e)) ≡ parentRule r e
+      rule-held z = sym (live ∙ ap (λ (a : Bool). a || not (isNone (parentOf r e))) (ne-eqb (b .rows) 0 z))
 
 -- ---- the number of the new revision
 
-module _ (p : Parent) where
-  pub last-known : p .known ≡ true → atLast (parentSays p) ≡ eqb (p .rev .number .0) last
-  last-known e = rw e refl
+module _ (p : Parent) (r : Replica) (e : Edit) (taken : parentSays p ≡ parentOf r e) where
+  last-is : lastNumber r e ≡ maybe false (λ v. eqb (v .number .0) numberMost) (parentSays p)
+  unfolding lastNumber
+  last-is = ap (maybe false (λ (v : Revision). eqb (v .number .0) numberMost)) (sym taken)
 
-  pub last-none : p .known ≡ false → atLast (parentSays p) ≡ false
-  last-none e = rw e refl
+  pub last-known : p .known ≡ true → eqb (p .rev .number .0) numberMost ≡ lastNumber r e
+  last-known k = sym (last-is ∙ rw k refl)
 
-  pub below-last : p .known ≡ true → atLast (parentSays p) ≡ false → p .rev .number .0 ≡ last → ⊥
-  below-last e l = eqb-false (p .rev .number .0) last (sym (last-known e) ∙ l)
+  pub last-none : p .known ≡ false → false ≡ lastNumber r e
+  last-none k = sym (last-is ∙ rw k refl)
 
-  pub after-known : p .known ≡ true → numberAfter (parentSays p) ≡ record { 0 = p .rev .number .0 + 1 }
-  after-known e = rw (e, add-one (p .rev .number .0)) refl
+  pub not-last : lastNumber r e ≡ false → NotLast p
+  not-last l k = eqb-false (p .rev .number .0) numberMost (last-known k ∙ l)
 
-  pub after-none : p .known ≡ false → numberAfter (parentSays p) ≡ record { 0 = 1 }
-  after-none e = rw e refl
+  number-is : newNumber r e ≡ record { 0 = suc (maybe 0 (λ v. v .number .0) (parentSays p)) }
+  unfolding newNumber
+  number-is = ap {B = RevNumber} (λ (o : Option Revision). record { 0 = suc (maybe 0 (λ v. v .number .0) o) }) (sym taken)
+
+  pub after-known : p .known ≡ true → record { 0 = p .rev .number .0 + 1 } ≡ newNumber r e
+  after-known k = sym (number-is ∙ rw (k, add-one (p .rev .number .0)) refl)
+
+  pub after-none : p .known ≡ false → record { 0 = 1 } ≡ newNumber r e
+  after-none k = sym (number-is ∙ rw k refl)

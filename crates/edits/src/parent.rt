@@ -1,22 +1,22 @@
 // The parent that an edit takes, and the rule on it.
 use rules::Content;
-use rules::LAST;
+use rules::HASH;
+use rules::NUMBER_MOST;
 use rules::RevNumber;
 use rules::Revision;
-use tree::leaf::Winner;
-use tree::leaf::winner_at;
+use tree::leaf::winner_of;
 use tree::row::Kind;
+use tree::table::Body;
 use tree::table::Found;
 use tree::table::find;
 use tree::table::kind_at;
-use tree::table::rev_at;
 ghost use mathlib.Core.Path.{_≡_};
-ghost use mathlib.Core.Bool.{false};
 ghost use mathlib.Core.Option.{none};
-ghost use Rattle.rules.specs.Edit.{isLeaf, deletedWinner};
-ghost use Rattle.tree.specs.Table.{treeAt, Searchable};
-ghost use Rattle.reads.specs.Reads.{CanRead};
-ghost use Rattle.edits.specs.Edit.{parentSays, parentFrom, ruleFrom, Readable, CanRule, atLast, numberAfter};
+ghost use Rattle.rules.specs.Edit.{Edit, isLeaf, deletedWinner, parentOf, parentRule, lastNumber, newNumber};
+ghost use Rattle.rules.specs.Replica.{Replica};
+ghost use Rattle.tree.specs.Table.{treeIn, Searchable};
+ghost use Rattle.store.specs.Storage.{replicaOf};
+ghost use Rattle.edits.specs.Edit.{parentSays, IsOn, IsRuled, NotLast};
 
 // A parent, if it is known. (A struct and not an enum, which can't hold a revision's array.)
 pub struct Parent {
@@ -27,7 +27,7 @@ pub struct Parent {
 fn nobody() -> Parent
     ensures { λ r. ⌜ parentSays r ≡ none ⌝ }
 {
-    let hash = [0u8; 16];
+    let hash = [0u8; HASH];
     let rev = Revision {
         number: RevNumber(0),
         hash,
@@ -35,30 +35,29 @@ fn nobody() -> Parent
     Parent { known: false, rev }
 }
 
-// The winner among n rows, if it is a deletion.
-fn deleted_winner(b: &[u8], base: usize, n: usize) -> Parent
-    requires { ⌜ CanRead base n (now b) ⌝ }
-    ensures { λ r. ⌜ parentSays r ≡ deletedWinner (treeAt base n (now (b .entry))) ⌝ }
+// The winner among the rows, if it is a deletion.
+fn deleted_winner(b: &[u8], body: Body) -> Parent
+    requires { ⌜ Searchable body (now b) ⌝ }
+    ensures { λ r. ⌜ parentSays r ≡ deletedWinner (treeIn body (now (b .entry))) ⌝ }
 {
-    let Winner::At(i) = winner_at(b, base, n) else {
+    let w = winner_of(b, body);
+    if !w.known {
         return nobody();
-    };
-    let Kind::Leaf(content) = kind_at(b, base, i) else {
-        return nobody();
-    };
+    }
+    let content = w.content;
     match content {
         Content::Live(_) => nobody(),
         Content::Deleted => {
-            let rev = rev_at(b, base, i);
+            let rev = w.rev;
             Parent { known: true, rev }
         }
     }
 }
 
 // The parent that is named, else the winner that is a deletion.
-pub(crate) fn parent_of(b: &[u8], base: usize, n: usize, named: bool, parent: Revision) -> Parent
-    requires { ⌜ Readable base n (now b) ⌝ }
-    ensures { λ r. ⌜ parentSays r ≡ parentFrom (treeAt base n (now (b .entry))) named parent ⌝ }
+pub(crate) fn parent_of(b: &[u8], body: Body, named: bool, parent: Revision) -> Parent
+    requires { ⌜ Searchable body (now b) ⌝ }
+    ensures { λ r. ⌜ ((e : Edit) → IsOn (now (b .entry)) body named parent e → parentSays r ≡ parentOf (replicaOf (now (b .entry))) e) ⌝ }
 {
     if named {
         return Parent {
@@ -66,19 +65,16 @@ pub(crate) fn parent_of(b: &[u8], base: usize, n: usize, named: bool, parent: Re
             rev: parent,
         };
     }
-    if n == 0 {
-        return nobody();
-    }
-    deleted_winner(b, base, n)
+    deleted_winner(b, body)
 }
 
-// Whether a revision is a leaf among n rows, live or deleted.
-fn is_leaf(b: &[u8], base: usize, n: usize, rev: Revision) -> bool
-    requires { ⌜ Searchable base n (now b) ⌝ }
-    ensures { λ r. ⌜ r ≡ isLeaf (treeAt base n (now (b .entry))) rev ⌝ }
+// Whether a revision is a leaf among the rows, live or deleted.
+fn is_leaf(b: &[u8], body: Body, rev: Revision) -> bool
+    requires { ⌜ Searchable body (now b) ⌝ }
+    ensures { λ r. ⌜ r ≡ isLeaf (treeIn body (now (b .entry))) rev ⌝ }
 {
-    match find(b, base, n, rev) {
-        Found::At(i) => match kind_at(b, base, i) {
+    match find(b, body, rev) {
+        Found::At(i) => match kind_at(b, body, i) {
             Kind::Inner => false,
             Kind::Leaf(_) => true,
         },
@@ -89,22 +85,21 @@ fn is_leaf(b: &[u8], base: usize, n: usize, rev: Revision) -> bool
 // 9: the parent rule, where `known` is whether a parent was found.
 pub(crate) fn rule_met(
     b: &[u8],
-    base: usize,
-    n: usize,
+    body: Body,
     content: Content,
     named: bool,
     parent: Revision,
     known: bool,
 ) -> bool
-    requires { ⌜ CanRule base n (now b) named parent known ⌝ }
-    ensures { λ r. ⌜ r ≡ ruleFrom (treeAt base n (now (b .entry))) content named parent ⌝ }
+    requires { ⌜ Searchable body (now b) ⌝ }
+    ensures { λ r. ⌜ ((e : Edit) → IsRuled (now (b .entry)) body content named parent known e → r ≡ parentRule (replicaOf (now (b .entry))) e) ⌝ }
 {
     if named {
-        return is_leaf(b, base, n, parent);
+        return is_leaf(b, body, parent);
     }
     match content {
         Content::Live(_) => {
-            if n == 0 {
+            if body.rows == 0 {
                 return true;
             }
             known
@@ -115,20 +110,20 @@ pub(crate) fn rule_met(
 
 // 11: the parent's number is 4,294,967,295.
 pub(crate) fn last_number(p: Parent) -> bool
-    ensures { λ r. ⌜ r ≡ atLast (parentSays p) ⌝ }
+    ensures { λ r. ⌜ ((x : Replica) (e : Edit) → parentSays p ≡ parentOf x e → r ≡ lastNumber x e) ⌝ }
 {
     let rev = p.rev;
     let number = rev.number;
     if p.known {
-        return number.0 == LAST;
+        return number.0 == NUMBER_MOST;
     }
     false
 }
 
 // One above the parent's number; 1 where there is none.
 pub(crate) fn next_number(p: Parent) -> RevNumber
-    requires { ⌜ atLast (parentSays p) ≡ false ⌝ }
-    ensures { λ r. ⌜ r ≡ numberAfter (parentSays p) ⌝ }
+    requires { ⌜ NotLast p ⌝ }
+    ensures { λ r. ⌜ ((x : Replica) (e : Edit) → parentSays p ≡ parentOf x e → r ≡ newNumber x e) ⌝ }
 {
     let rev = p.rev;
     let number = rev.number;

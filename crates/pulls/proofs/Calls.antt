@@ -2,13 +2,14 @@
 use mathlib.Core.Path.{_≡_, refl, sym, ap, ap₂, _∙_, subst}
 use mathlib.Core.List.{List, [], _∷_}
 use Prim.Native.Nat.{ℕ}
+use Rattle.rules.specs.declared.Seq.{Seq}
 use Rattle.rules.specs.declared.Written.{Written}
+use Rattle.rules.specs.Outcome.{Call}
 use Rattle.rules.specs.Replica.{Replica}
 use Rattle.rules.specs.Union.{writeAll, IsAccepted, AllAccepted}
 use Rattle.rules.specs.Write.{Write}
 use Rattle.union.specs.Said.{answers}
 use Rattle.store.specs.Storage.{replicaOf, IsStored}
-use Rattle.writes.specs.Always.{AlwaysBy}
 use Rattle.writes.specs.Calls.{WriteCalls, answersOf, NoneRefused}
 use Rattle.writes.specs.Judge.{Wrote}
 use Rattle.writes.specs.Path.{writeOf}
@@ -20,12 +21,25 @@ use Rattle.pulls.proofs.pull.Reads as pull'
 
 -- ---- what callers of the compiled functions learn is what the theorems ask for
 
-pub call-wrote : AlwaysBy _ write.ps write.r write'.Asked write'.Learnt
-    (λ κs a x s. Wrote (a .0 .now) (writeOf (a .1 .0 .now) (a .1 .1 .0) (a .1 .1 .1 .0 .now) (a .1 .1 .1 .1 .0)) x (s .0 .now))
-call-wrote κs a x s h p = p
+module _ (c : Call _ write.ps write.r write'.Asked write'.Learnt) where
+  abbrev given : Write
+  given = writeOf (c .args .1 .0 .now) (c .args .1 .1 .0) (c .args .1 .1 .1 .0 .now) (c .args .1 .1 .1 .1 .0)
 
-pub call-pulled : AlwaysBy _ pull.ps pull.r pull'.Asked pull'.Learnt (λ κs a x s. Pulled (a .1 .1 .0) (a .1 .0 .now) (a .0 .now) x (s .0 .now))
-call-pulled κs a x s h p = p
+  pub call-wrote : Wrote (c .args .0 .now) given (c .result) (c .exit .0 .now)
+  call-wrote = c .promise
+
+module _ (c : Call _ pull.ps pull.r pull'.Asked pull'.Learnt) where
+  abbrev target : List ℕ
+  target = c .args .0 .now
+
+  abbrev source : List ℕ
+  source = c .args .1 .0 .now
+
+  abbrev after : Seq
+  after = c .args .1 .1 .0
+
+  pub call-pulled : Pulled after source target (c .result) (c .exit .0 .now)
+  call-pulled = c .promise
 
 -- ---- what calls one after the other leave of the replica
 

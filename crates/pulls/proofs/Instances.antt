@@ -1,23 +1,24 @@
 -- Demand 3 and pulls that refuse nothing, on writes written out, of the compiled calls: every hypothesis on the writes is met, so that only calls are asked for. Assumes nothing.
-use mathlib.Core.Path.{_≡_, refl, ap, ap₂, _∙_}
+use mathlib.Core.Path.{_≡_, refl, sym, ap, ap₂, _∙_}
+use mathlib.Core.Bool.{true≢false}
 use mathlib.Core.List.{List, [], _∷_, _++_}
 use mathlib.Core.Logic.{inl, inr}
 use mathlib.Core.Option.{none, some}
 use Prim.Native.Nat.{ℕ}
-use native.Mathlib.Omega.{arith}
 use Rattle.rules.specs.declared.Content.{Content}
 use Rattle.rules.specs.declared.Content.the-variants.{Live}
 use Rattle.rules.specs.declared.Counts.{Counts}
 use Rattle.rules.specs.Bytes.{join, pieces}
-use Rattle.rules.specs.Choice.{any, firstThat}
+use Rattle.rules.specs.Choice.{any, firstThat, howMany}
 use Rattle.rules.specs.Examples.{lot, hash, on}
 use Rattle.rules.specs.Map.{find, alter}
 use Rattle.rules.specs.Order.{orderN, orderBytes, orderRev, sameRev}
 use Rattle.rules.specs.Pull.{offer, offersOf, offersIn, offers, count, take-in, pull}
-use Rattle.rules.specs.Read.{leaves, contentLabel, ancestry, pathOf, insertBySeq, documentsAfter}
+use Rattle.rules.specs.Read.{leaves, ancestry, pathOf, insertBySeq, documentsAfter}
 use Rattle.rules.specs.Replica.{revision, Node, Replica, fresh, documentOf, treeOf, revisionsHeld}
 use Rattle.rules.specs.Union.{Compatible, given, IsUnion, SameButSeq, writeAll, allFrom}
-use Rattle.rules.specs.Write.{Write, hashes, along, gives, addAll, added, isNew, isAddition, adds, countNew, badId, badPath, lowNumber, otherParent, otherContent, documentsFull, revisionsFull, sequenceSpent, roomRefusals, writeRefusals, write}
+use Rattle.rules.specs.Write.{Write, hashes, along, gives, addAll, added, isNew, isNewParent, countNew, countParents, adds}
+use Rattle.rules.specs.Write.{badId, badPath, lowNumber, otherParent, otherContent, documentsFull, revisionsFull, sequenceSpent, roomRefusals, writeRefusals, write}
 use Rattle.union.specs.Said.{there}
 use Rattle.union.proofs.Instances.{one, apart, pair-ready, office, field, offices-ready, around, same-writes, repeats, repeats-ready, spent, nearly, spent-is, nearly-is, high-agrees, counts, come}
 use Rattle.store.specs.Storage.{replicaOf, stored}
@@ -107,15 +108,17 @@ not-compatible k =
     let node : Content → Node = λ c. record { parent = none; content = some c } in
     let e = k .contents lot v (Live 7) (Live 9)
     (node (Live 7), (one, inl refl, refl, inl refl), refl) (node (Live 9), (two, inr (inl refl), refl, inl refl), refl) in
-    let n : _≡_ {A = ℕ} 7 9 = ap contentLabel e in
-    omega arith
+    true≢false (sym e)
 
-record Passed : Type 0 where
+pub record Passed : Type 0 where
   pub forth : pull allFrom (writeAll kept fresh) (writeAll lost fresh) .0 ≡ counts 0 1 0
   pub back : pull allFrom (there (writeAll kept fresh) (writeAll lost fresh)) (writeAll kept fresh) .0 ≡ counts 1 0 0
 
-passed : Passed
-unfolding pull take-in count offers offersIn offersOf offer documentsAfter insertBySeq pathOf ancestry leaves writeAll write writeRefusals roomRefusals badId badPath lowNumber otherParent otherContent documentsFull revisionsFull sequenceSpent countNew isNew isAddition adds added addAll gives along hashes pieces join firstThat any find alter orderBytes orderRev orderN sameRev documentOf treeOf revisionsHeld
+pub passed : Passed
+unfolding pull take-in count offers offersIn offersOf offer documentsAfter insertBySeq pathOf ancestry leaves writeAll
+    write writeRefusals roomRefusals badId badPath lowNumber otherParent otherContent documentsFull revisionsFull
+    sequenceSpent countNew countParents isNew isNewParent adds howMany added addAll gives along hashes pieces join
+    firstThat any find alter orderBytes orderRev orderN sameRev documentOf treeOf revisionsHeld
 passed = record { forth = refl; back = refl }
 
 pub lost-agrees : (x : Run kept lost) → Agrees kept lost x

@@ -2,7 +2,7 @@
 use mathlib.Core.Path.{_≡_, refl, sym, ap, ap₂, _∙_, subst}
 use mathlib.Core.List.{List, [], _∷_, _++_, map}
 use mathlib.Core.Logic.{inl}
-use Prim.Native.Nat.{ℕ, suc, _+_, _-_, _*_, _≤_, _<_}
+use Prim.Native.Nat.{ℕ, suc, _+_, _-_, _≤_, _<_}
 use native.Mathlib.Omega.{arith}
 use lib.ListN.{length, take}
 use Rattle.rules.specs.declared.Content.{Content}
@@ -10,7 +10,7 @@ use Rattle.rules.specs.declared.Counts.{Counts}
 use Rattle.rules.specs.declared.Revision.{Revision}
 use Rattle.rules.specs.declared.Written.{Written}
 use Rattle.rules.specs.Bytes.{join, part, pieces}
-use Rattle.rules.specs.Image.{rowSize}
+use Rattle.rules.specs.Layout.{rowSize}
 use Rattle.rules.specs.Pull.{offer, offersOf, count, take-in}
 use Rattle.rules.specs.Read.{LeafOf, leafIn, leaves, pathOf}
 use Rattle.rules.specs.Replica.{Id, Tree, Document, Replica, documentOf, HasContent, IsDocument}
@@ -27,13 +27,13 @@ use Rattle.union.proofs.Offers.{path-room}
 use Rattle.union.proofs.Pulls.{count-one}
 use Rattle.union.proofs.Winners.{leaf-content}
 use Rattle.tree.specs.declared.row.Kind.the-variants.{Inner, Leaf}
+use Rattle.tree.specs.declared.table.Body.{Body}
 use Rattle.tree.specs.Leaf.{leafOf}
 use Rattle.tree.specs.Path.{PathPut}
 use Rattle.tree.specs.Rows.{rowAt, nodeAt, revAt}
-use Rattle.tree.specs.Table.{treeAt}
+use Rattle.tree.specs.Table.{treeAt, rowStart}
 use Rattle.tree.proofs.LeafLaws.{leaves-append, rev-of-row, leaf-none, leaf-one}
 use Rattle.tree.proofs.TableLaws.{tree-last, tree-cut}
-use Rattle.store.specs.declared.read.Body.{Body}
 use Rattle.store.specs.Storage.{replicaOf, IsStored}
 use Rattle.store.specs.Documents.{documentsOf, documentAt, IsBody}
 use Rattle.store.proofs.BodyLaws.{body-shows}
@@ -41,7 +41,7 @@ use Rattle.store.proofs.FitLaws.{stored-laid}
 use Rattle.store.proofs.StoredLaws.{size-laid}
 use Rattle.reads.proofs.NextLaws.{in-at}
 use Rattle.writes.specs.Judge.{Wrote}
-use Rattle.pulls.specs.Pulls.{pathRoom, Offered, Made, offerOf, CanOffer, CanOfferAll}
+use Rattle.pulls.specs.Pulls.{pathRoom, Offered, Made, CanOffer, CanOfferAll}
 
 -- ---- one offer
 
@@ -55,8 +55,9 @@ pub record WasPut (u : Tree) (v : Revision) (p : List ℕ) (n : ℕ) (q : List �
   pub path : take n q ≡ join (pathOf u v)
   pub room : length q ≡ length p
 
-pub was-put : (u : Tree) (v : Revision) (p : List ℕ) (n : ℕ) (q : List ℕ) → length (pathOf u v) ≤ hashesMost → pathRoom ≤ length p → PathPut u v 0 p n q → WasPut u v p n q
-was-put u v p n q f h d =
+pub was-put : {u : Tree} {v : Revision} {p : List ℕ} {n : ℕ} {q : List ℕ} → length (pathOf u v) ≤ hashesMost → pathRoom ≤ length p → PathPut u v 0 p n q
+    → WasPut u v p n q
+was-put {u} {v} {p} {n} {q} f h d =
     let bs = join (pathOf u v) in
     let e = d .end in
     let z = d .size in
@@ -64,17 +65,20 @@ was-put u v p n q f h d =
     record { within = omega arith; path = ap (take n) (d .is) ∙ path-front p bs n (omega arith) (omega arith); room = l }
 
 -- the target is what the write leaves
-pub offer-made : (i : Id) (u : Tree) (v : Revision) (c : Content) (t p : List ℕ) (n : ℕ) (q : List ℕ) (r : Written) (left : List ℕ)
+pub offer-made : {i : Id} {u : Tree} {v : Revision} {c : Content} {t p : List ℕ} {n : ℕ} {q : List ℕ} {r : Written} {left : List ℕ}
     → WasPut u v p n q → Wrote t (record { id = i; number = v .number; path = take n q; content = c }) r left
-    → Made (offerOf i u v c) t p r left q
-offer-made i u v c t p n q r left put wrote =
-    let d : Wrote t (offerOf i u v c) r left = subst (λ (bs : List ℕ). Wrote t (record { id = i; number = v .number; path = bs; content = c }) r left) (put .path) wrote in
+    → Made (offer i u (leafOf v c)) t p r left q
+unfolding offer
+offer-made {i} {u} {v} {c} {t} {p} {n} {q} {r} {left} put wrote =
+    let d : Wrote t (offer i u (leafOf v c)) r left
+    = subst (λ (bs : List ℕ). Wrote t (record { id = i; number = v .number; path = bs; content = c }) r left) (put .path) wrote in
     record { answer = d .answer; means = d .means; is-stored = d .is; room = put .room }
 
 -- and the answer is counted
-counted : (w : Write) (c after : Counts) (t p : List ℕ) (r : Written) (left q : List ℕ) → Made w t p r left q → after ≡ count r c → Offered (w ∷ []) c t p after left q
+counted : {w : Write} {c after : Counts} {t p : List ℕ} {r : Written} {left q : List ℕ} → Made w t p r left q → after ≡ count r c
+    → Offered (w ∷ []) c t p after left q
 unfolding take-in
-counted w c after t p r left q made e = record {
+counted {c = c} made e = record {
   is = ap₂ {C = Counts × Replica} (λ a b. (a, b)) (ap (λ (x : Written). count x c) (sym (made .answer)) ∙ sym e) (sym (made .means));
   is-stored = made .is-stored;
   room = made .room;
@@ -82,48 +86,75 @@ counted w c after t p r left q made e = record {
 
 -- ---- the leaves of a document, from the last row down
 
--- the rows below i are still to be offered
-pub record Left (s : List ℕ) (b : Body) (x : Id × Document) (c₀ : Counts) (t₀ p₀ t p : List ℕ) (i : ℕ) (c : Counts) : Type 0 where
+-- the offers of the leaves of t, as revisions of document x
+abbrev offersFrom : Id × Document → Tree → List Write
+offersFrom x t = map (offer (x .0) (x .1 .tree)) (leaves t)
+
+-- the rows below i of document d are still to be offered
+pub record Left (s : List ℕ) (d : ℕ) (b : Body) (c₀ : Counts) (t₀ p₀ t p : List ℕ) (i : ℕ) (c : Counts) : Type 0 where
   pub within : i ≤ b .rows
   pub few : total c + length (leaves (treeAt (b .base) i s)) ≤ revisionsMost
-  pub is : take-in (map (offer (x .0) (x .1 .tree)) (leaves (treeAt (b .base) i s))) (c, replicaOf t) ≡ take-in (offersOf x) (c₀, replicaOf t₀)
+  pub is : take-in (offersFrom (documentAt (documentsOf s) d) (treeAt (b .base) i s)) (c, replicaOf t)
+      ≡ take-in (offersOf (documentAt (documentsOf s) d)) (c₀, replicaOf t₀)
   pub is-stored : IsStored t
   pub room : length p ≡ length p₀
 
-module _ (s : List ℕ) (d : ℕ) (b : Body) (body : IsBody s d b) where
+-- row k is a leaf of document d, which i names, with the revision v and the content o
+pub record LeafRow (s : List ℕ) (d : ℕ) (b : Body) (k : ℕ) (i : Id) (v : Revision) (o : Content) : Type 0 where
+  pub named : i ≡ documentAt (documentsOf s) d .0
+  pub kind : rowAt (rowStart b k) s .kind ≡ Leaf o
+  pub rev : v ≡ revAt (rowStart b k) s
+
+module _ {s : List ℕ} {d : ℕ} {b : Body} (body : IsBody s d b) where
   abbrev x : Id × Document
   x = documentAt (documentsOf s) d
 
-  tree-is : treeAt (b .base) (b .rows) s ≡ x .1 .tree
+  abbrev below : ℕ → Tree
+  below n = treeAt (b .base) n s
+
+  tree-is : below (b .rows) ≡ x .1 .tree
   tree-is = body-shows s d b body .tree
 
-  module _ (c₀ : Counts) (t₀ p₀ : List ℕ) where
-    pub left-all : (i : ℕ) → i ≡ b .rows → CanOfferAll s d c₀ t₀ p₀ → Left s b x c₀ t₀ p₀ t₀ p₀ i c₀
-    unfolding offersOf
-    left-all i e can =
-        let u : treeAt (b .base) i s ≡ x .1 .tree = ap (λ (n : ℕ). treeAt (b .base) n s) e ∙ tree-is in
-        record {
-          within = omega arith;
-          few = rw u (can .few);
-          is = rw u;
-          is-stored = can .target;
-          room = refl;
-        }
+  pub left-all : {c₀ : Counts} {t₀ p₀ : List ℕ} → CanOfferAll s d c₀ t₀ p₀ → Left s d b c₀ t₀ p₀ t₀ p₀ (b .rows) c₀
+  unfolding offersOf
+  left-all can = record {
+    within = omega arith;
+    few = rw tree-is (can .few);
+    is = rw tree-is;
+    is-stored = can .target;
+    room = refl;
+  }
 
-    module _ (t p : List ℕ) (i j : ℕ) (c : Counts) (left : Left s b x c₀ t₀ p₀ t p i c) (e : i ≡ j + 1) where
-      pub row-within : b .base + j * rowSize + rowSize ≤ length s
+  module _ {c₀ : Counts} {t₀ p₀ t p : List ℕ} {i : ℕ} {c : Counts} (left : Left s d b c₀ t₀ p₀ t p i c) where
+    pub sizes : CanOfferAll s d c₀ t₀ p₀ → length t ≡ length t₀
+    sizes can = size-laid t (stored-laid t (left .is-stored)) ∙ sym (size-laid t₀ (stored-laid t₀ (can .target)))
+
+    -- no row is left
+    pub left-none : i ≡ 0 → Offered (offersOf x) c₀ t₀ p₀ c t p
+    unfolding take-in leaves treeAt pieces
+    left-none e = record {
+      is = sym (subst (λ (n : ℕ). take-in (offersFrom x (below n)) (c, replicaOf t) ≡ take-in (offersOf x) (c₀, replicaOf t₀)) e (left .is));
+      is-stored = left .is-stored;
+      room = left .room;
+    }
+
+    module _ (some-row : 0 < i) where
+      abbrev place : ℕ
+      place = rowStart b (i - 1)
+
+      pub row-within : place + rowSize ≤ length s
       row-within = let w = body-shows s d b body .within in let l = left .within in omega arith
 
-      next : leaves (treeAt (b .base) i s) ≡ leafIn (nodeAt (b .base + j * rowSize) s) ++ leaves (treeAt (b .base) j s)
+      next : leaves (below i) ≡ leafIn (nodeAt place s) ++ leaves (below (i - 1))
       unfolding leaves
       next =
-          ap (λ (n : ℕ). leaves (treeAt (b .base) n s)) e
-          ∙ (ap leaves (tree-last (b .base) j s)
-          ∙ leaves-append (treeAt (b .base) j s) (nodeAt (b .base + j * rowSize) s ∷ []))
+          let e : i ≡ i - 1 + 1 = omega arith in
+          ap (λ (n : ℕ). leaves (below n)) e
+          ∙ (ap leaves (tree-last (b .base) (i - 1) s) ∙ leaves-append (below (i - 1)) (nodeAt place s ∷ []))
 
-      pub left-inner : rowAt (b .base + j * rowSize) s .kind ≡ Inner → Left s b x c₀ t₀ p₀ t p j c
+      pub left-inner : rowAt place s .kind ≡ Inner → Left s d b c₀ t₀ p₀ t p (i - 1) c
       left-inner k =
-          let n : leaves (treeAt (b .base) i s) ≡ leaves (treeAt (b .base) j s) = next ∙ rw (leaf-none (b .base + j * rowSize) s k) in
+          let n : leaves (below i) ≡ leaves (below (i - 1)) = next ∙ rw (leaf-none place s k) in
           record {
             within = let l = left .within in omega arith;
             few = rw n at (left .few);
@@ -132,50 +163,53 @@ module _ (s : List ℕ) (d : ℕ) (b : Body) (body : IsBody s d b) where
             room = left .room;
           }
 
-      module _ (id : Id) (f : id ≡ x .0) (v : Revision) (o : Content) (k : rowAt (b .base + j * rowSize) s .kind ≡ Leaf o) (r : v ≡ revAt (b .base + j * rowSize) s) where
-        next-leaf : leaves (treeAt (b .base) i s) ≡ leafOf v o ∷ leaves (treeAt (b .base) j s)
+      module _ {h : Id} {v : Revision} {o : Content} (row : LeafRow s d b (i - 1) h v o) where
+        next-leaf : leaves (below i) ≡ leafOf v o ∷ leaves (below (i - 1))
         unfolding revAt
-        next-leaf = next ∙ rw (leaf-one (b .base + j * rowSize) s o k, rev-of-row (b .base + j * rowSize) s, r)
+        next-leaf = next ∙ rw (leaf-one place s o (row .kind), rev-of-row place s, row .rev)
 
-        left-leaf : (c′ : Counts) (t′ p′ : List ℕ) → Offered (offerOf id (treeAt (b .base) (b .rows) s) v o ∷ []) c t p c′ t′ p′ → Left s b x c₀ t₀ p₀ t′ p′ j c′
-        unfolding take-in offer
-        left-leaf c′ t′ p′ made =
-            let ws = map (offer (x .0) (x .1 .tree)) (leaves (treeAt (b .base) j s)) in
-            let w = offerOf (x .0) (x .1 .tree) v o in
+        fewer : length (leaves (below i)) ≡ suc (length (leaves (below (i - 1))))
+        fewer = ap length next-leaf
+
+        left-leaf : {c′ : Counts} {t′ p′ : List ℕ} → Offered (offer h (below (b .rows)) (leafOf v o) ∷ []) c t p c′ t′ p′
+            → Left s d b c₀ t₀ p₀ t′ p′ (i - 1) c′
+        unfolding take-in
+        left-leaf {c′} {t′} made =
+            let ws = offersFrom x (below (i - 1)) in
+            let w = offer (x .0) (x .1 .tree) (leafOf v o) in
             let one : take-in (w ∷ []) (c, replicaOf t) ≡ (c′, replicaOf t′)
-            = ap₂ (λ (h : Id) (u : Tree). take-in (offerOf h u v o ∷ []) (c, replicaOf t)) (sym f) (sym tree-is) ∙ made .is in
+            = ap₂ (λ (h : Id) (u : Tree). take-in (offer h u (leafOf v o) ∷ []) (c, replicaOf t)) (sym (row .named)) (sym tree-is) ∙ made .is in
             let rest : take-in (w ∷ ws) (c, replicaOf t) ≡ take-in (offersOf x) (c₀, replicaOf t₀)
             = subst (λ (l : List LeafOf). take-in (map (offer (x .0) (x .1 .tree)) l) (c, replicaOf t) ≡ take-in (offersOf x) (c₀, replicaOf t₀)) next-leaf (left .is) in
-            let n : length (leaves (treeAt (b .base) i s)) ≡ suc (length (leaves (treeAt (b .base) j s))) = ap length next-leaf in
             let up : suc (total c) ≡ total c′
             = sym (count-one (write (replicaOf t) w .0) c) ∙ ap (λ (z : Counts × Replica). total (z .0)) one in
             record {
               within = let l = left .within in omega arith;
-              few = let l = left .few in omega arith;
+              few = let l = left .few in let n = fewer in omega arith;
               is = ap (take-in ws) (sym one) ∙ rest;
               is-stored = made .is-stored;
               room = made .room ∙ left .room;
             }
 
         -- whatever its answer was, the offer is counted and the rows below are left
-        pub left-counted : (c′ : Counts) (t′ p′ : List ℕ) (a : Written) → Made (offerOf id (treeAt (b .base) (b .rows) s) v o) t p a t′ p′ → c′ ≡ count a c → Left s b x c₀ t₀ p₀ t′ p′ j c′
-        left-counted c′ t′ p′ a made q =
-            left-leaf c′ t′ p′ (counted (offerOf id (treeAt (b .base) (b .rows) s) v o) c c′ t p a t′ p′ made q)
+        pub left-counted : {c′ : Counts} {t′ p′ : List ℕ} {a : Written} → Made (offer h (below (b .rows)) (leafOf v o)) t p a t′ p′ → c′ ≡ count a c
+            → Left s d b c₀ t₀ p₀ t′ p′ (i - 1) c′
+        left-counted made q = left-leaf (counted made q)
 
         leaf-in : In (leafOf v o) (leaves (x .1 .tree))
         leaf-in =
-            let cut : treeAt (b .base) (b .rows) s ≡ treeAt (b .base) i s ++ treeAt (b .base + i * rowSize) (b .rows - i) s
+            let behind : Tree = treeAt (rowStart b i) (b .rows - i) s in
+            let cut : below (b .rows) ≡ below i ++ behind
             = tree-cut (b .base) i (b .rows - i) (b .rows) s (let l = left .within in omega arith) in
-            let all : leaves (x .1 .tree) ≡ leaves (treeAt (b .base + i * rowSize) (b .rows - i) s) ++ leaves (treeAt (b .base) i s)
-            = ap leaves (sym tree-is ∙ cut) ∙ leaves-append (treeAt (b .base) i s) (treeAt (b .base + i * rowSize) (b .rows - i) s) in
-            rw all
-            (in-right (leafOf v o) (leaves (treeAt (b .base + i * rowSize) (b .rows - i) s)) (leaves (treeAt (b .base) i s)) (rw next-leaf (inl refl)))
+            let all : leaves (x .1 .tree) ≡ leaves behind ++ leaves (below i)
+            = ap leaves (sym tree-is ∙ cut) ∙ leaves-append (below i) behind in
+            rw all (in-right (leafOf v o) (leaves behind) (leaves (below i)) (rw next-leaf (inl refl)))
 
         pub can-count : total c < revisionsMost
-        can-count = let n : length (leaves (treeAt (b .base) i s)) ≡ suc (length (leaves (treeAt (b .base) j s))) = ap length next-leaf in let l = left .few in omega arith
+        can-count = let n = fewer in let l = left .few in omega arith
 
         pub can-offer : CanOfferAll s d c₀ t₀ p₀ → CanOffer s b v t p
-        unfolding offer documentOf
+        unfolding documentOf
         can-offer can =
             let r = replicaOf s in
             let z = can .source .replica in
@@ -188,16 +222,3 @@ module _ (s : List ℕ) (d : ℕ) (b : Body) (body : IsBody s d b) where
               room = let e₁ = can .room in let e₂ = left .room in omega arith;
               target = left .is-stored;
             }
-
-    pub sizes : (t p : List ℕ) (i : ℕ) (c : Counts) → CanOfferAll s d c₀ t₀ p₀ → Left s b x c₀ t₀ p₀ t p i c → length t ≡ length t₀
-    sizes t p i c can left =
-        size-laid t (stored-laid t (left .is-stored)) ∙ sym (size-laid t₀ (stored-laid t₀ (can .target)))
-
-    -- no row is left
-    pub left-none : (t p : List ℕ) (i : ℕ) (c : Counts) → i ≡ 0 → Left s b x c₀ t₀ p₀ t p i c → Offered (offersOf x) c₀ t₀ p₀ c t p
-    unfolding take-in leaves treeAt pieces
-    left-none t p i c e left = record {
-      is = sym (subst (λ (n : ℕ). take-in (map (offer (x .0) (x .1 .tree)) (leaves (treeAt (b .base) n s))) (c, replicaOf t) ≡ take-in (offersOf x) (c₀, replicaOf t₀)) e (left .is));
-      is-stored = left .is-stored;
-      room = left .room;
-    }

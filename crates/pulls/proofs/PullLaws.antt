@@ -5,6 +5,7 @@ use Prim.Native.Nat.{ℕ, suc, _+_, _<_, _≤_}
 use native.Mathlib.Omega.{arith}
 use lib.ListN.{length, length-append}
 use Rattle.rules.specs.declared.Counts.{Counts}
+use Rattle.rules.specs.declared.Next.{Next}
 use Rattle.rules.specs.declared.Next.the-variants.{Nobody, At}
 use Rattle.rules.specs.declared.Seq.{Seq}
 use Rattle.rules.specs.Answer.{Numbered}
@@ -37,26 +38,27 @@ pub record Rest (s : List ℕ) (q₀ : Seq) (t₀ t p : List ℕ) (q : Seq) (c :
   pub is-stored : IsStored t
   pub room : length p ≡ pathRoom
 
-module _ (s : List ℕ) (q₀ : Seq) (t₀ : List ℕ) (can : CanPull s t₀) where
-  pub rest-all : (p : List ℕ) → length p ≡ pathRoom → Rest s q₀ t₀ t₀ p q₀ noCounts
+module _ {s : List ℕ} {q₀ : Seq} {t₀ : List ℕ} (can : CanPull s t₀) where
+  pub rest-all : {p : List ℕ} → length p ≡ pathRoom → Rest s q₀ t₀ t₀ p q₀ noCounts
   unfolding pull offers
-  rest-all p e = record {
+  rest-all e = record {
     few = let a = offers-most q₀ (replicaOf s) in let b = can .source .replica .revisions-most in omega arith;
     is = refl;
     is-stored = can .target;
     room = e;
   }
 
-  module _ (t p : List ℕ) (q : Seq) (c : Counts) (rest : Rest s q₀ t₀ t p q c) where
+  module _ {t p : List ℕ} {q : Seq} {c : Counts} (rest : Rest s q₀ t₀ t p q c) where
     pub target-size : length t ≡ length t₀
     target-size = size-laid t (stored-laid t (rest .is-stored)) ∙ sym (size-laid t₀ (stored-laid t₀ (can .target)))
 
     -- no document is left
-    pub rest-none : IsNext q 0 (documentsOf s) Nobody → Pulled q₀ s t₀ c t
+    pub rest-none : {n : Next} → IsNext q 0 (documentsOf s) n → n ≡ Nobody → Pulled q₀ s t₀ c t
     unfolding take-in offersIn
-    rest-none e =
+    rest-none next e =
         let is : (c, replicaOf t) ≡ pull q₀ (replicaOf s) (replicaOf t₀)
-        = subst (λ (l : List (Id × Document)). take-in (offersIn l) (c, replicaOf t) ≡ pull q₀ (replicaOf s) (replicaOf t₀)) e (rest .is) in
+        = subst (λ (l : List (Id × Document)). take-in (offersIn l) (c, replicaOf t) ≡ pull q₀ (replicaOf s) (replicaOf t₀))
+        (subst (IsNext q 0 (documentsOf s)) e next) (rest .is) in
         record {
           counts = ap (λ (z : Counts × Replica). z .0) is;
           bytes = rest .is-stored .same ∙ ap (λ (z : Counts × Replica). stored (z .1)) is;
@@ -64,9 +66,12 @@ module _ (s : List ℕ) (q₀ : Seq) (t₀ : List ℕ) (can : CanPull s t₀) wh
           is-stored = rest .is-stored;
         }
 
-    module _ (d : ℕ) (q′ : Seq) (next : IsNext q 0 (documentsOf s) (At d q′)) where
+    module _ {n : Next} {d : ℕ} {q′ : Seq} (found : IsNext q 0 (documentsOf s) n) (e : n ≡ At d q′) where
       abbrev x : Id × Document
       x = documentAt (documentsOf s) d
+
+      next : IsNext q 0 (documentsOf s) (At d q′)
+      next = subst (IsNext q 0 (documentsOf s)) e found
 
       next-is : documentsAfter q (documentsOf s) ≡ x ∷ documentsAfter q′ (documentsOf s)
       next-is =
@@ -96,8 +101,8 @@ module _ (s : List ℕ) (q₀ : Seq) (t₀ : List ℕ) (can : CanPull s t₀) wh
           }
 
       -- document d is offered
-      pub rest-more : (c′ : Counts) (t′ p′ : List ℕ) → Offered (offersOf x) c t p c′ t′ p′ → Rest s q₀ t₀ t′ p′ q′ c′
-      rest-more c′ t′ p′ made =
+      pub rest-more : {c′ : Counts} {t′ p′ : List ℕ} → Offered (offersOf x) c t p c′ t′ p′ → Rest s q₀ t₀ t′ p′ q′ c′
+      rest-more {c′} made =
           let ws = offersIn (documentsAfter q′ (documentsOf s)) in
           let up : total c′ ≡ length (offersOf x) + total c
           = sym (ap (λ (z : Counts × Replica). total (z .0)) (made .is)) ∙ take-in-total (offersOf x) c (replicaOf t) in

@@ -3,21 +3,19 @@ use mathlib.Core.Path.{_≡_}
 use mathlib.Core.List.{List, [], _∷_}
 use Prim.Native.Nat.{ℕ, _+_, _*_, _<_, _≤_}
 use lib.ListN.{length}
-use Rattle.rules.specs.declared.Content.{Content}
 use Rattle.rules.specs.declared.Counts.{Counts}
 use Rattle.rules.specs.declared.Revision.{Revision}
 use Rattle.rules.specs.declared.Seq.{Seq}
 use Rattle.rules.specs.declared.Written.{Written}
-use Rattle.rules.specs.Bytes.{join}
 use Rattle.rules.specs.Pull.{take-in, pull}
 use Rattle.rules.specs.Read.{leaves, pathOf}
-use Rattle.rules.specs.Replica.{Id, Tree, Document}
+use Rattle.rules.specs.Replica.{Id, Document}
 use Rattle.rules.specs.Room.{revisionsMost, hashesMost, hashSize}
 use Rattle.rules.specs.Union.{In}
 use Rattle.rules.specs.Write.{Write, write}
 use Rattle.union.specs.Said.{total}
-use Rattle.tree.specs.Table.{treeAt, Searchable}
-use Rattle.store.specs.declared.read.Body.{Body}
+use Rattle.tree.specs.declared.table.Body.{Body}
+use Rattle.tree.specs.Table.{treeIn, Searchable}
 use Rattle.store.specs.Storage.{replicaOf, stored, IsStored}
 use Rattle.store.specs.Documents.{documentsOf, documentAt}
 
@@ -58,14 +56,10 @@ pub record Made (w : Write) (t p : List ℕ) (r : Written) (left p′ : List ℕ
   pub is-stored : IsStored left
   pub room : length p′ ≡ length p
 
--- a revision with its whole path
-abbrev pub offerOf : Id → Tree → Revision → Content → Write
-offerOf i t v c = record { id = i; number = v .number; path = join (pathOf t v); content = c }
-
 -- one leaf: there is room for the longest path, and its own is no longer
 pub record CanOffer (s : List ℕ) (b : Body) (v : Revision) (t p : List ℕ) : Type 0 where
-  pub rows : Searchable (b .base) (b .rows) s
-  pub few : length (pathOf (treeAt (b .base) (b .rows) s) v) ≤ hashesMost
+  pub rows : Searchable b s
+  pub few : length (pathOf (treeIn b s) v) ≤ hashesMost
   pub room : pathRoom ≤ length p
   pub target : IsStored t
 

@@ -5,35 +5,37 @@
 use reads::replica::next_after;
 use rules::Content;
 use rules::Counts;
+use rules::HASH;
 use rules::Next;
 use rules::Outcome;
 use rules::PATH_HASHES;
 use rules::Revision;
 use rules::Seq;
 use rules::Written;
-use store::read::Body;
 use store::read::body_of;
 use store::read::id_of;
 use tree::path::put_path;
 use tree::row::Kind;
+use tree::table::Body;
 use tree::table::kind_at;
 use tree::table::rev_at;
 use writes::write;
 ghost use mathlib.Core.Path.{_≡_};
 ghost use Prim.Native.Nat.{_<_};
 ghost use Rattle.rules.specs.declared.Refusal.{Refusal};
-ghost use Rattle.rules.specs.Pull.{offersOf, count};
+ghost use Rattle.rules.specs.Pull.{offer, offersOf, count};
 ghost use Rattle.rules.specs.Room.{revisionsMost};
 ghost use Rattle.union.specs.Said.{total};
-ghost use Rattle.tree.specs.Table.{treeAt};
+ghost use Rattle.tree.specs.Leaf.{leafOf};
+ghost use Rattle.tree.specs.Table.{treeIn};
 ghost use Rattle.store.specs.Storage.{IsStored};
 ghost use Rattle.store.specs.Documents.{documentsOf, documentAt};
 ghost use Rattle.writes.specs.Judge.{Wrote};
 ghost use Rattle.writes.specs.Path.{writeOf};
-ghost use Rattle.pulls.specs.Pulls.{CanPull, Pulled, Offered, Made, offerOf, CanOffer, CanOfferAll};
+ghost use Rattle.pulls.specs.Pulls.{CanPull, Pulled, Offered, Made, CanOffer, CanOfferAll};
 
 // The bytes of the longest path.
-const PATH: usize = PATH_HASHES * 16;
+const PATH: usize = PATH_HASHES * HASH;
 
 fn count_accepted(c: Counts, o: Outcome) -> Counts
     requires { ⌜ total c < revisionsMost ⌝ }
@@ -84,9 +86,9 @@ fn offer_leaf(
     path: &mut [u8],
 ) -> Written
     requires { ⌜ CanOffer (now source) body rev (now target) (now path) ⌝ }
-    ensures { λ r. ⌜ Made (offerOf (now (id .entry)) (treeAt (body .base) (body .rows) (now (source .entry))) rev content) (now (target .entry)) (now (path .entry)) r (now (target .exit)) (now (path .exit)) ⌝ }
+    ensures { λ r. ⌜ Made (offer (now (id .entry)) (treeIn body (now (source .entry))) (leafOf rev content)) (now (target .entry)) (now (path .entry)) r (now (target .exit)) (now (path .exit)) ⌝ }
 {
-    let end = put_path(source, body.base, body.rows, rev, path, 0);
+    let end = put_path(source, body, rev, path, 0);
     offer(target, id, rev, &path[..end], content)
 }
 
@@ -104,15 +106,14 @@ fn offer_document(
 {
     let id = id_of(source, d);
     let body = body_of(source, d);
-    let base = body.base;
     let mut i = body.rows;
     let mut c = counts;
     while 0 < i {
         i -= 1;
-        match kind_at(source, base, i) {
+        match kind_at(source, body, i) {
             Kind::Inner => {}
             Kind::Leaf(content) => {
-                let rev = rev_at(source, base, i);
+                let rev = rev_at(source, body, i);
                 let Written::Accepted(o) = offer_leaf(target, source, body, id, rev, content, path)
                 else {
                     c = count_refused(c);

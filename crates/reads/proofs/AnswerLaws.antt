@@ -40,12 +40,12 @@ front-splice bytes out = rw (zero-add (length bytes))
 module _ {A : Type 0} (refused : Refusal → A) (answer : A) (bytes out : List ℕ) where
   pub lend-short : length out < length bytes → Does (lend refused out answer bytes (firstThat (shortBuffer bytes out ∷ []))) (refused ShortBuffer) out
   unfolding firstThat shortBuffer
-  lend-short h = rw (lt-ltb _ _ h) (record { answers = refl; leaves = refl })
+  lend-short h = rw (lt-ltb _ _ h) (record { answers = refl; left = refl })
 
   pub lend-answers : (x : A) (after : List ℕ) → length bytes ≤ length out → x ≡ answer → after ≡ splice out 0 bytes
       → Does (lend refused out answer bytes (firstThat (shortBuffer bytes out ∷ []))) x after
   unfolding firstThat shortBuffer
-  lend-answers x after h e w = rw (le-ltb _ _ h) (record { answers = e; leaves = w ∙ front-splice bytes out })
+  lend-answers x after h e w = rw (le-ltb _ _ h) (record { answers = e; left = w ∙ front-splice bytes out })
 
 module _ (ts us : List (Bool × Refusal)) (n : ℕ) (bytes out : List ℕ) where
   -- what was tested before and does not hold
@@ -57,7 +57,7 @@ module _ (ts us : List (Bool × Refusal)) (n : ℕ) (bytes out : List ℕ) where
   unfolding reads
   reads-refused x e =
       rw (append-assoc ts us (shortBuffer bytes out ∷ []), first-some ts (us ++ (shortBuffer bytes out ∷ [])) x e)
-      (record { answers = refl; leaves = refl })
+      (record { answers = refl; left = refl })
 
 module _ (n : ℕ) (bytes out : List ℕ) where
   pub reads-short : length out < length bytes → Does (reads [] n bytes out) (Refused ShortBuffer) out

@@ -16,9 +16,11 @@ use Rattle.rules.specs.declared.Refusal.the-variants.{BadId, BadAsked, ShortBuf
 use Rattle.rules.specs.declared.Revision.{Revision}
 use Rattle.rules.specs.Bytes.{value, part, pieces}
 use Rattle.rules.specs.Choice.{firstThat}
+use Rattle.rules.specs.Layout.{hashIn}
 use Rattle.rules.specs.Outcome.{Does}
 use Rattle.rules.specs.Read.{askedSize, askedRev, missingByte, missing, readMissing}
 use Rattle.rules.specs.Replica.{Id, Tree, Replica, revision, treeOf}
+use Rattle.rules.specs.Room.{hashSize}
 use Rattle.rules.specs.Write.{badId}
 use Rattle.rules.proofs.ByteLaws.{length-part, part-part, pieces-add, length-pieces}
 use Rattle.rules.proofs.OrderLaws.{rev-path}
@@ -30,13 +32,15 @@ use Rattle.reads.proofs.AnswerLaws.{reads-past, reads-refused, reads-sh
 
 -- ---- one asked revision
 
-pub asked-fields : (s : List ℕ) (at n : ℕ) (h : List ℕ) → at + 20 ≤ length s → n ≡ value (part at 4 s) → h ≡ part (at + 4) 16 s → revision n h ≡ askedRev (part at 20 s)
+pub asked-fields : (s : List ℕ) (at n : ℕ) (h : List ℕ) → at + askedSize ≤ length s → n ≡ value (part at hashIn s) → h ≡ part (at + hashIn) hashSize s
+    → revision n h ≡ askedRev (part at askedSize s)
 unfolding askedRev part
 asked-fields s at n h r e f =
-    let x : List ℕ = part at 20 s in
-    let l : length x ≡ 20 = length-part at 20 s r in
-    let a : take 4 x ≡ part at 4 s = part-part 0 4 at 20 s (omega arith) ∙ rw (add-zero at) in
-    let b : drop 4 x ≡ part (at + 4) 16 s = sym (take-all 16 (drop 4 x) (simp length-drop (omega arith))) ∙ part-part 4 16 at 20 s (omega arith) in
+    let x : List ℕ = part at askedSize s in
+    let l : length x ≡ askedSize = length-part at askedSize s r in
+    let a : take hashIn x ≡ part at hashIn s = part-part 0 hashIn at askedSize s (omega arith) ∙ rw (add-zero at) in
+    let b : drop hashIn x ≡ part (at + hashIn) hashSize s
+    = sym (take-all hashSize (drop hashIn x) (simp length-drop (omega arith))) ∙ part-part hashIn hashSize at askedSize s (omega arith) in
     rev-path _ _ (e ∙ ap value (sym a)) (f ∙ sym b)
 
 -- ---- the bytes of the first i
@@ -100,10 +104,10 @@ module _ (r : Replica) (i : Id) (asked out : List ℕ) where
       rw (reads-past refusals [] (length (missing t asked)) (missing t asked) out (none-holds e h))
       (reads-short (length (missing t asked)) (missing t asked) out (rw (length-missing t asked) l))
 
-  pub missing-answers : (n : ℕ) (u : Tree) (after : List ℕ) → badId i ≡ false → length asked % askedSize ≡ 0 → n ≡ length asked / askedSize → n ≤ length out
+  pub missing-answers : {n : ℕ} {u : Tree} {after : List ℕ} → badId i ≡ false → length asked % askedSize ≡ 0 → n ≡ length asked / askedSize → n ≤ length out
       → u ≡ t → after ≡ splice out 0 (missing u asked) → Does (readMissing r i asked out) (Count n) after
   unfolding readMissing
-  missing-answers n u after e h q l same w =
+  missing-answers {n} {u} {after} e h q l same w =
       let z = length-missing t asked in
       rw (reads-past refusals [] (length (missing t asked)) (missing t asked) out (none-holds e h))
       (reads-answers (length (missing t asked)) (missing t asked) out n after (omega arith) (q ∙ sym z) (w ∙ ap (λ (x : Tree). splice out 0 (missing x asked)) same))

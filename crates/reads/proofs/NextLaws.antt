@@ -98,9 +98,9 @@ module _ (s : Seq) (ds : Map Id Document) (j : ℕ) (within : j < length ds) whe
   step (At d p) h = next-at (ltb (s .0) (x .1 .seq .0)) (leb (x .1 .seq .0) (p .0)) d p refl refl h
 
 -- from the documents behind j to those from j on
-pub next-more : (s : Seq) (ds : Map Id Document) (k j : ℕ) (q : Seq) (n m : Next) → k ≡ j + 1 → k ≤ length ds → q ≡ documentAt ds j .1 .seq → m ≡ sooner s j q n
-    → IsNext s k ds n → IsNext s j ds m
-next-more s ds k j q n m e l f g h = rw (g, f) (step s ds j (omega arith) n (rw e at h))
+pub next-more : (s : Seq) (ds : Map Id Document) {k : ℕ} (j : ℕ) {q : Seq} (n : Next) {m : Next} → k ≡ j + 1 → k ≤ length ds → q ≡ documentAt ds j .1 .seq
+    → m ≡ sooner s j q n → IsNext s k ds n → IsNext s j ds m
+next-more s ds j n e l f g h = rw (g, f) (step s ds j (omega arith) n (rw e at h))
 
 pub next-none : (s : Seq) (ds : Map Id Document) (k : ℕ) → k ≡ length ds → IsNext s k ds Nobody
 unfolding documentsAfter
@@ -114,25 +114,25 @@ next-says s ds (At d q) h = rw (h .1) (h .2)
 -- ---- the call
 
 module _ (s : List ℕ) (after : Seq) (out : List ℕ) where
-  pub changes-none : (n : Next) → n ≡ Nobody → IsNext after 0 (documentsOf s) n → Does (readChanges (replicaOf s) after out) changed.NoMore out
+  pub changes-none : {n : Next} → n ≡ Nobody → IsNext after 0 (documentsOf s) n → Does (readChanges (replicaOf s) after out) changed.NoMore out
   unfolding readChanges
-  changes-none n e h =
+  changes-none e h =
       let z : documentsAfter after (documentsOf s) ≡ [] = rw e at h in
-      rw z (record { answers = refl; leaves = refl })
+      rw z (record { answers = refl; left = refl })
 
-  pub changes-next : (n : Next) (d : ℕ) (q : Seq) (r : Changes) (left : List ℕ) → n ≡ At d q → IsNext after 0 (documentsOf s) n → Does (changeRead s d out) r left
+  pub changes-next : {n : Next} {d : ℕ} {q : Seq} {r : Changes} {left : List ℕ} → n ≡ At d q → IsNext after 0 (documentsOf s) n → Does (changeRead s d out) r left
       → Does (readChanges (replicaOf s) after out) r left
   unfolding readChanges changeRead
-  changes-next n d q r left e h w =
+  changes-next {d = d} {q = q} e h w =
       let z : IsNext after 0 (documentsOf s) (At d q) = rw e at h in
       rw (z .1) w
 
-pub next-within : (after : Seq) (ds : Map Id Document) (n : Next) (d : ℕ) (q : Seq) → n ≡ At d q → IsNext after 0 ds n → d < length ds
-next-within after ds n d q e h = let z : IsNext after 0 ds (At d q) = rw e at h in z .0
+pub next-within : (after : Seq) (ds : Map Id Document) {n : Next} {d : ℕ} {q : Seq} → n ≡ At d q → IsNext after 0 ds n → d < length ds
+next-within after ds {d = d} {q = q} e h = let z : IsNext after 0 ds (At d q) = rw e at h in z .0
 
 -- ---- one document
 
-module _ (s : List ℕ) (d : ℕ) (id out : List ℕ) (same : id ≡ documentAt (documentsOf s) d .0) where
+module _ (s : List ℕ) (d : ℕ) {id : List ℕ} (out : List ℕ) (same : id ≡ documentAt (documentsOf s) d .0) where
   abbrev x′ : Id × Document
   x′ = documentAt (documentsOf s) d
 
@@ -140,11 +140,11 @@ module _ (s : List ℕ) (d : ℕ) (id out : List ℕ) (same : id ≡ documentAt 
   unfolding changeRead
   change-short h = lend-short changed.Refused (changed.Next (changeOf x′)) (x′ .0) out (rw same at h)
 
-  pub change-answers : (n : ℕ) (q : Seq) (k : ℕ) (gone : Bool) (after : List ℕ) → n ≡ length id → q ≡ x′ .1 .seq → k ≡ length (leaves (x′ .1 .tree))
+  pub change-answers : {n : ℕ} {q : Seq} {k : ℕ} {gone : Bool} {after : List ℕ} → n ≡ length id → q ≡ x′ .1 .seq → k ≡ length (leaves (x′ .1 .tree))
       → gone ≡ deletionWins (x′ .1 .tree) → length id ≤ length out → after ≡ splice out 0 id
       → Does (changeRead s d out) (changed.Next (record { «id_len» = n; seq = q; leaves = k; deleted = gone })) after
   unfolding changeRead changeOf deletionWins
-  change-answers n q k gone after en eq ek eg l w =
+  change-answers {n} {q} {k} {gone} {after} en eq ek eg l w =
       let z : n ≡ length (x′ .0) = en ∙ ap length same in
       lend-answers changed.Refused (changed.Next (changeOf x′)) (x′ .0) out
       (changed.Next (record { «id_len» = n; seq = q; leaves = k; deleted = gone })) after (rw same at l)

@@ -1,11 +1,10 @@
 -- A document found or not, its tree, and the refusals 1 and 12. Assumes nothing.
-use mathlib.Core.Path.{_≡_, refl, subst}
+use mathlib.Core.Path.{_≡_, refl, sym, ap, _∙_, subst}
 use mathlib.Core.Bool.{true, false}
 use mathlib.Core.List.{List}
 use mathlib.Core.Option.{Option, none, some}
 use Prim.Native.Nat.{ℕ, _<_}
-use borrow.Author.Tests.{eq-eqb, ne-eqb}
-use lib.Dec.{ltb}
+use native.Mathlib.Omega.{arith}
 use lib.ListN.{length}
 use Rattle.rules.specs.declared.Refusal.{Refusal}
 use Rattle.rules.specs.declared.Refusal.the-variants.{BadId, NoDocument}
@@ -14,32 +13,20 @@ use Rattle.rules.specs.Map.{Ascending}
 use Rattle.rules.specs.Order.{orderRev}
 use Rattle.rules.specs.Read.{documentRefusals}
 use Rattle.rules.specs.Replica.{Id, Document, Replica, documentOf, treeOf, treeIn, IsDocument, IsTree}
-use Rattle.rules.specs.Room.{idMost}
 use Rattle.rules.specs.Write.{badId}
 use Rattle.rules.proofs.OrderLaws.{bytesOrder}
 use Rattle.tree.specs.declared.table.Found.the-variants.{At, Gap}
-use Rattle.tree.specs.Table.{treeAt, Searchable}
-use Rattle.store.specs.declared.read.Body.{Body}
+use Rattle.tree.specs.declared.table.Body.{Body}
+use Rattle.tree.specs.Table.{Searchable}
 use Rattle.store.specs.Storage.{replicaOf, IsStored}
 use Rattle.store.specs.Documents.{documentsOf, documentAt, noDocument, placeOfId, IsBody, Shows}
 use Rattle.store.proofs.EntryLaws.{all-at}
 use Rattle.store.proofs.FitLaws.{all-found, stored-laid}
 use Rattle.store.proofs.PlaceLaws.{id-found, id-gap}
 use Rattle.store.proofs.BodyLaws.{found-body, body-shows}
-use Rattle.reads.specs.declared.document.Opened.{Opened}
 use Rattle.reads.specs.declared.document.Opened.the-variants as opened
 use Rattle.reads.specs.Reads.{CanRead, IsOpen, Opens}
 use Rattle.reads.specs.Next.{HasTree}
-
--- ---- 1
-
-pub bad-empty : (i : Id) → length i ≡ 0 → badId i ≡ true
-unfolding badId
-bad-empty i e = rw (eq-eqb _ _ e)
-
-pub bad-long : (i : Id) → (length i ≡ 0 → ⊥) → ltb idMost (length i) ≡ badId i
-unfolding badId
-bad-long i h = rw (ne-eqb _ _ h)
 
 -- ---- the documents of a replica in a buffer
 
@@ -63,14 +50,14 @@ pub has-tree : (s : List ℕ) (d : ℕ) → IsStored s → d < length (documents
 has-tree s d h l = record { document = record { laid = stored-laid s h; within = l }; is = each-document s d h l .tree }
 
 -- the rows of a document are its tree
-pub tree-rows : (s : List ℕ) (d : ℕ) (b : Body) → HasTree s d → IsBody s d b → CanRead (b .base) (b .rows) s
+pub tree-rows : (s : List ℕ) (d : ℕ) (b : Body) → HasTree s d → IsBody s d b → CanRead b s
 tree-rows s d b h k =
     let w = body-shows s d b k in
-    let i : IsTree (treeAt (b .base) (b .rows) s) = rw (w .tree) (h .is) in
+    let i = subst IsTree (sym (w .tree)) (h .is) in
     record { rows = record { within = w .within; ascending = i .ascending }; is = i }
 
 -- rows that show a tree can be searched where the tree ascends
-pub shown-rows : (s : List ℕ) (i : Id) (b : Body) → IsStored s → Shows s b (treeOf (replicaOf s) i) → Searchable (b .base) (b .rows) s
+pub shown-rows : (s : List ℕ) (i : Id) (b : Body) → IsStored s → Shows s b (treeOf (replicaOf s) i) → Searchable b s
 shown-rows s i b h w = record { within = w .within; ascending = rw (w .tree) (tree-ascends s i h) }
 
 -- ---- 1 and 12
@@ -105,8 +92,14 @@ module _ (s : List ℕ) (i : Id) (d : ℕ) (good : badId i ≡ false) where
 
 -- ---- what was opened
 
-pub opened-at : (s : List ℕ) (i : Id) (r : Opened) (b : Body) → r ≡ opened.At b → Opens s i r → IsOpen s i b
-opened-at s i r b e h = subst (λ (o : Opened). Opens s i o) e h
+pub opens-at : {s : List ℕ} {i : Id} {b : Body} → IsOpen s i b → Opens s i (opened.At b)
+opens-at {s} {i} {b} h = record {
+  at = λ c e. let z : b ≡ c = cc in subst (λ (x : Body). IsOpen s i x) z h;
+  refused = λ n e. absurd (let z : _≡_ {A = ℕ} 0 1 = cc in omega arith);
+}
 
-pub opened-refused : (s : List ℕ) (i : Id) (r : Opened) (n : Refusal) → r ≡ opened.Refused n → Opens s i r → firstThat (documentRefusals (replicaOf s) i) ≡ some n
-opened-refused s i r n e h = subst (λ (o : Opened). Opens s i o) e h
+pub opens-refused : {s : List ℕ} {i : Id} (n : Refusal) → firstThat (documentRefusals (replicaOf s) i) ≡ some n → Opens s i (opened.Refused n)
+opens-refused n h = record {
+  at = λ c e. absurd (let z : _≡_ {A = ℕ} 0 1 = cc in omega arith);
+  refused = λ m e. let z : n ≡ m = cc in h ∙ ap some z;
+}

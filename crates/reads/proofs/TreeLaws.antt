@@ -1,9 +1,9 @@
 -- What every document's tree has: a winner, leaves that are known by their content, paths by their parents, and byte
 -- forms of one size. Assumes nothing.
 use mathlib.Core.Path.{_≡_, refl, ap, _∙_}
-use mathlib.Core.Bool.{Bool, true, false, not}
+use mathlib.Core.Bool.{Bool, true, false}
 use mathlib.Core.List.{List, [], _∷_, _++_, map}
-use mathlib.Core.Logic.{inl, inr, _↔_}
+use mathlib.Core.Logic.{inl, inr}
 use mathlib.Core.Option.{Option, none, some}
 use Prim.Native.Nat.{ℕ, zero, suc, _*_, _≤_, _<_}
 use native.Mathlib.Omega.{arith}
@@ -14,14 +14,13 @@ use Rattle.rules.specs.declared.Content.{Content}
 use Rattle.rules.specs.declared.Revision.{Revision}
 use Rattle.rules.specs.Bytes.{join}
 use Rattle.rules.specs.Choice.{maybe}
-use Rattle.rules.specs.Edit.{contentIn, isLeaf}
 use Rattle.rules.specs.Map.{find}
 use Rattle.rules.specs.Order.{orderRev}
-use Rattle.rules.specs.Read.{LeafOf, leaves, higher, highest, winner, leafBytes, parentIn, ancestry, pathOf}
-use Rattle.rules.specs.Replica.{Hash, Node, Tree, Known, HasContent, HasChild, Leaf, IsTree}
+use Rattle.rules.specs.Read.{LeafOf, leaves, higher, highest, winner, leafBytes, ancestry, pathOf}
+use Rattle.rules.specs.Replica.{Hash, Node, Tree, Known, HasContent, HasChild, IsTree}
 use Rattle.rules.specs.Room.{hashSize}
 use Rattle.rules.specs.Union.{In}
-use Rattle.rules.specs.Write.{isNone}
+use Rattle.rules.specs.Write.{parentIn}
 use Rattle.rules.proofs.ByteLaws.{Sized, length-join}
 use Rattle.rules.proofs.MapLaws.{none≢some}
 use Rattle.rules.proofs.OrderLaws.{revOrder}
@@ -86,22 +85,6 @@ winner-content t h a e = winner-top t (h .ascending) a .0 e .0
 
 -- ---- leaves
 
--- a leaf is what has a content
-pub leaf-test : (t : Tree) → IsTree t → (v : Revision) → (isLeaf t v ≡ true) ↔ Leaf t v
-unfolding isLeaf
-leaf-test t h v = (λ e. h .leaves v .0 (there (find orderRev v t) refl e), λ l. let c = h .leaves v .1 l in rw (c .1 .1, c .1 .2) refl)
-  where
-    no : _≡_ {A = Bool} false true → {A : Type 0} → A
-    no e = absurd (let z : _≡_ {A = ℕ} 0 1 = cc in omega arith)
-
-    in-node : (n : Node) → find orderRev v t ≡ some n → (o : Option Content) → n .content ≡ o → not (isNone o) ≡ true → (c : Content) × HasContent t v c
-    in-node n f none q e = no e
-    in-node n f (some c) q e = (c, (n, f, q))
-
-    there : (o : Option Node) → find orderRev v t ≡ o → not (isNone (contentIn o)) ≡ true → (c : Content) × HasContent t v c
-    there none f e = no e
-    there (some n) f e = in-node n f (n .content) refl e
-
 pub leaves-most : (t : Tree) → length (leaves t) ≤ length t
 unfolding leaves
 leaves-most [] = omega arith
@@ -116,7 +99,9 @@ pub leaf-size : (t : Tree) → IsTree t → (a : LeafOf) → HasContent t (a .re
 leaf-size t h a c = length-leaf (a .rev) (a .content) (h .revisions (a .rev) (c .0, c .1) .size)
 
 pub leaves-size : (t : Tree) → IsTree t → length (join (map leafBytes (leaves t))) ≡ length (leaves t) * leafSize
-leaves-size t h = length-join leafSize (map leafBytes (leaves t)) (each (leaves t) (λ a m. leaf-size t h a (leaf-content t (h .ascending) a m))) ∙ ap (λ (n : ℕ). n * leafSize) (length-map leafBytes (leaves t))
+leaves-size t h =
+    length-join leafSize (map leafBytes (leaves t)) (each (leaves t) (λ a m. leaf-size t h a (leaf-content t (h .ascending) a m)))
+    ∙ ap (λ (n : ℕ). n * leafSize) (length-map leafBytes (leaves t))
   where
     each : (ls : List LeafOf) → ((a : LeafOf) → In a ls → length (leafBytes a) ≡ leafSize) → Sized leafSize (map leafBytes ls)
     each [] f = tt

@@ -1,10 +1,12 @@
 -- The reads of a document, step by step: its rows after the refusals 1 and 12, then what is left to refuse and to write.
 use mathlib.Core.Path.{_≡_}
-use mathlib.Core.List.{List, [], _∷_, map}
+use mathlib.Core.Bool.{Bool}
+use mathlib.Core.List.{List, [], _∷_, _++_, map}
 use mathlib.Core.Option.{none, some}
 use Prim.Native.Nat.{ℕ, _/_, _≤_}
 use lib.ListN.{length}
 use Rattle.rules.specs.declared.Answered.{Answered}
+use Rattle.rules.specs.declared.Refusal.{Refusal}
 use Rattle.rules.specs.declared.Refusal.the-variants.{NoRevision}
 use Rattle.rules.specs.declared.Revision.{Revision}
 use Rattle.rules.specs.Bytes.{join}
@@ -15,39 +17,51 @@ use Rattle.rules.specs.Read.{leaves, winner, leafBytes, pathOf, askedSize, miss
 use Rattle.rules.specs.Replica.{Id, Tree, treeOf, IsTree}
 use Rattle.rules.specs.Write.{isNone}
 use Rattle.octets.specs.Splice.{splice}
-use Rattle.tree.specs.Table.{treeAt, Searchable}
-use Rattle.store.specs.declared.read.Body.{Body}
+use Rattle.tree.specs.declared.table.Body.{Body}
+use Rattle.tree.specs.Table.{treeIn, Searchable}
 use Rattle.store.specs.Storage.{replicaOf}
 use Rattle.reads.specs.declared.document.Opened.{Opened}
 use Rattle.reads.specs.declared.document.Opened.the-variants.{At, Refused}
 
--- n rows from base on are a document's tree
-pub record CanRead (base n : ℕ) (s : List ℕ) : Type 0 where
-  pub rows : Searchable base n s
-  pub is : IsTree (treeAt base n s)
+-- the rows are a document's tree
+pub record CanRead (b : Body) (s : List ℕ) : Type 0 where
+  pub rows : Searchable b s
+  pub is : IsTree (treeIn b s)
 
 -- the rows b are those of the document i, which is there
 pub record IsOpen (s : List ℕ) (i : Id) (b : Body) : Type 0 where
   pub refusals : firstThat (documentRefusals (replicaOf s) i) ≡ none
-  pub rows : CanRead (b .base) (b .rows) s
-  pub tree : treeAt (b .base) (b .rows) s ≡ treeOf (replicaOf s) i
+  pub rows : CanRead b s
+  pub tree : treeIn b s ≡ treeOf (replicaOf s) i
 
 -- "Reads of a document check 1, 12"
-abbrev pub Opens : List ℕ → Id → Opened → Type 0
-Opens s i (At b) = IsOpen s i b
-Opens s i (Refused n) = firstThat (documentRefusals (replicaOf s) i) ≡ some n
+pub record Opens (s : List ℕ) (i : Id) (r : Opened) : Type 0 where
+  pub at : (b : Body) → r ≡ At b → IsOpen s i b
+  pub refused : (n : Refusal) → r ≡ Refused n → firstThat (documentRefusals (replicaOf s) i) ≡ some n
 
--- ---- what a read of the tree t refuses, answers and writes
+-- ---- what a read of a tree refuses, answers and writes
 
-unfoldable pub winnerRead : Tree → List ℕ → Answered × List ℕ
-winnerRead t out = let bytes = maybe [] leafBytes (winner t) in reads [] (length bytes) bytes out
+pub record Reading : Type 0 where
+  pub refusals : List (Bool × Refusal)
+  pub count : ℕ
+  pub bytes : List ℕ
 
-unfoldable pub leavesRead : Tree → List ℕ → Answered × List ℕ
-leavesRead t out = reads [] (length (leaves t)) (join (map leafBytes (leaves t))) out
+unfoldable pub winnerIn : Tree → Reading
+winnerIn t = let bytes = maybe [] leafBytes (winner t) in record { refusals = []; count = length bytes; bytes = bytes }
 
-unfoldable pub pathRead : Tree → Revision → List ℕ → Answered × List ℕ
-pathRead t v out =
-    reads ((isNone (find orderRev v t), NoRevision) ∷ []) (length (pathOf t v)) (join (pathOf t v)) out
+unfoldable pub leavesIn : Tree → Reading
+leavesIn t = record { refusals = []; count = length (leaves t); bytes = join (map leafBytes (leaves t)) }
+
+unfoldable pub pathIn : Revision → Tree → Reading
+pathIn v t = record {
+  refusals = (isNone (find orderRev v t), NoRevision) ∷ [];
+  count = length (pathOf t v);
+  bytes = join (pathOf t v);
+}
+
+-- after these refusals, with the lent buffer
+abbrev pub readingAfter : List (Bool × Refusal) → Reading → List ℕ → Answered × List ℕ
+readingAfter before q out = reads (before ++ q .refusals) (q .count) (q .bytes) out
 
 -- ---- missing revisions
 
@@ -55,8 +69,8 @@ pathRead t v out =
 abbrev pub missingOf : Tree → Revision → ℕ
 missingOf t v = pick (isNone (find orderRev v t)) 1 0
 
-pub record CanPutMissing (base n : ℕ) (s asked out : List ℕ) : Type 0 where
-  pub rows : Searchable base n s
+pub record CanPutMissing (b : Body) (s asked out : List ℕ) : Type 0 where
+  pub rows : Searchable b s
   pub room : length asked / askedSize ≤ length out
 
 -- a byte for each asked revision stands at the front

@@ -2,57 +2,44 @@
 use octets::number::get4;
 use octets::run::get_hash;
 use rules::Answered;
+use rules::HASH;
 use rules::Refusal;
 use rules::RevNumber;
 use rules::Revision;
-use store::read::Body;
+use store::read::bad_id;
 use store::read::body_of;
 use store::read::body_of_id;
 use store::read::find_document;
-use tree::leaf::Winner;
+use tree::leaf::LEAF;
 use tree::leaf::leaf_count;
 use tree::leaf::put_leaf;
 use tree::leaf::put_leaves;
-use tree::leaf::winner_at;
+use tree::leaf::winner_of;
 use tree::path::path_count;
 use tree::path::put_path;
-use tree::row::Kind;
+use tree::table::Body;
 use tree::table::Found;
 use tree::table::is_missing;
-use tree::table::kind_at;
-use tree::table::rev_at;
 ghost use mathlib.Core.Path.{_≡_};
-ghost use Prim.Native.Nat.{ℕ, _+_, _≤_};
+ghost use mathlib.Core.List.{[]};
+ghost use Prim.Native.Nat.{_+_, _≤_};
 ghost use lib.ListN.{length};
 ghost use Rattle.rules.specs.Bytes.{part};
 ghost use Rattle.rules.specs.Outcome.{Does};
-ghost use Rattle.rules.specs.Read.{askedRev, readWinner, readLeaves, readPath, readMissing};
-ghost use Rattle.rules.specs.Write.{badId};
-ghost use Rattle.tree.specs.Table.{treeAt, Searchable};
+ghost use Rattle.rules.specs.Read.{askedSize, askedRev, readWinner, readLeaves, readPath, readMissing};
+ghost use Rattle.tree.specs.Table.{treeIn, Searchable};
 ghost use Rattle.store.specs.Storage.{replicaOf, IsStored};
-ghost use Rattle.reads.specs.Reads.{CanRead, Opens, missingOf, winnerRead, leavesRead, pathRead, CanPutMissing, MissingPut};
+ghost use Rattle.reads.specs.Reads.{CanRead, Opens, missingOf, winnerIn, leavesIn, pathIn, readingAfter, CanPutMissing, MissingPut};
 
-// A leaf's, a hash's and an asked revision's bytes.
-const LEAF: usize = 29;
+// An asked revision: its number, and where its hash begins and ends.
+const ASKED_HASH_IN: usize = 4;
 
-const HASH: usize = 16;
-
-const ASKED: usize = 20;
+const ASKED: usize = ASKED_HASH_IN + HASH;
 
 // The rows of a document, or why there are none to read.
 enum Opened {
     At(Body),
     Refused(Refusal),
-}
-
-// 1: an id is 1 to 32 bytes.
-fn bad_id(id: &[u8]) -> bool
-    ensures { λ r. ⌜ r ≡ badId (now (id .entry)) ⌝ }
-{
-    if id.len() == 0 {
-        return true;
-    }
-    32 < id.len()
 }
 
 // "Reads of a document check 1, 12".
@@ -69,51 +56,50 @@ fn rows_of(b: &[u8], id: &[u8]) -> Opened
     }
 }
 
-// The winner among n rows. A tree has one, and it is a leaf, so no call answers 0.
-fn answer_winner(b: &[u8], base: usize, n: usize, out: &mut [u8]) -> Answered
-    requires { ⌜ CanRead base n (now b) ⌝ }
-    ensures { λ r. ⌜ Does (winnerRead (treeAt base n (now (b .entry))) (now (out .entry))) r (now (out .exit)) ⌝ }
+// The winner among the rows. A tree has one, so no call answers 0.
+fn answer_winner(b: &[u8], body: Body, out: &mut [u8]) -> Answered
+    requires { ⌜ CanRead body (now b) ⌝ }
+    ensures { λ r. ⌜ Does (readingAfter [] (winnerIn (treeIn body (now (b .entry)))) (now (out .entry))) r (now (out .exit)) ⌝ }
 {
-    let Winner::At(i) = winner_at(b, base, n) else {
+    let w = winner_of(b, body);
+    if !w.known {
         return Answered::Count(0);
-    };
-    let Kind::Leaf(content) = kind_at(b, base, i) else {
-        return Answered::Count(0);
-    };
+    }
     if out.len() < LEAF {
         return Answered::Refused(Refusal::ShortBuffer);
     }
-    let rev = rev_at(b, base, i);
+    let rev = w.rev;
+    let content = w.content;
     put_leaf(out, 0, rev, content);
     Answered::Count(LEAF)
 }
 
-// The leaves among n rows.
-fn answer_leaves(b: &[u8], base: usize, n: usize, out: &mut [u8]) -> Answered
-    requires { ⌜ CanRead base n (now b) ⌝ }
-    ensures { λ r. ⌜ Does (leavesRead (treeAt base n (now (b .entry))) (now (out .entry))) r (now (out .exit)) ⌝ }
+// The leaves among the rows.
+fn answer_leaves(b: &[u8], body: Body, out: &mut [u8]) -> Answered
+    requires { ⌜ CanRead body (now b) ⌝ }
+    ensures { λ r. ⌜ Does (readingAfter [] (leavesIn (treeIn body (now (b .entry)))) (now (out .entry))) r (now (out .exit)) ⌝ }
 {
-    let count = leaf_count(b, base, n);
+    let count = leaf_count(b, body);
     if out.len() < count * LEAF {
         return Answered::Refused(Refusal::ShortBuffer);
     }
-    put_leaves(b, base, n, out);
+    put_leaves(b, body, out);
     Answered::Count(count)
 }
 
-// The path of a revision among n rows. It is counted before the first hash is written.
-fn answer_path(b: &[u8], base: usize, n: usize, rev: Revision, out: &mut [u8]) -> Answered
-    requires { ⌜ CanRead base n (now b) ⌝ }
-    ensures { λ r. ⌜ Does (pathRead (treeAt base n (now (b .entry))) rev (now (out .entry))) r (now (out .exit)) ⌝ }
+// The path of a revision among the rows. It is counted before the first hash is written.
+fn answer_path(b: &[u8], body: Body, rev: Revision, out: &mut [u8]) -> Answered
+    requires { ⌜ CanRead body (now b) ⌝ }
+    ensures { λ r. ⌜ Does (readingAfter [] (pathIn rev (treeIn body (now (b .entry)))) (now (out .entry))) r (now (out .exit)) ⌝ }
 {
-    if is_missing(b, base, n, rev) {
+    if is_missing(b, body, rev) {
         return Answered::Refused(Refusal::NoRevision);
     }
-    let hashes = path_count(b, base, n, rev);
+    let hashes = path_count(b, body, rev);
     if out.len() < hashes * HASH {
         return Answered::Refused(Refusal::ShortBuffer);
     }
-    put_path(b, base, n, rev, out, 0);
+    put_path(b, body, rev, out, 0);
     Answered::Count(hashes)
 }
 
@@ -123,7 +109,7 @@ pub fn winner(b: &[u8], id: &[u8], out: &mut [u8]) -> Answered
     ensures { λ r. ⌜ Does (readWinner (replicaOf (now (b .entry))) (now (id .entry)) (now (out .entry))) r (now (out .exit)) ⌝ }
 {
     match rows_of(b, id) {
-        Opened::At(body) => answer_winner(b, body.base, body.rows, out),
+        Opened::At(body) => answer_winner(b, body, out),
         Opened::Refused(n) => Answered::Refused(n),
     }
 }
@@ -134,7 +120,7 @@ pub fn leaves(b: &[u8], id: &[u8], out: &mut [u8]) -> Answered
     ensures { λ r. ⌜ Does (readLeaves (replicaOf (now (b .entry))) (now (id .entry)) (now (out .entry))) r (now (out .exit)) ⌝ }
 {
     match rows_of(b, id) {
-        Opened::At(body) => answer_leaves(b, body.base, body.rows, out),
+        Opened::At(body) => answer_leaves(b, body, out),
         Opened::Refused(n) => Answered::Refused(n),
     }
 }
@@ -145,18 +131,18 @@ pub fn path(b: &[u8], id: &[u8], rev: Revision, out: &mut [u8]) -> Answered
     ensures { λ r. ⌜ Does (readPath (replicaOf (now (b .entry))) (now (id .entry)) rev (now (out .entry))) r (now (out .exit)) ⌝ }
 {
     match rows_of(b, id) {
-        Opened::At(body) => answer_path(b, body.base, body.rows, rev, out),
+        Opened::At(body) => answer_path(b, body, rev, out),
         Opened::Refused(n) => Answered::Refused(n),
     }
 }
 
 // The asked revision at `at`.
 fn asked_rev(asked: &[u8], at: usize) -> Revision
-    requires { ⌜ at + 20 ≤ length (now asked) ⌝ }
-    ensures { λ r. ⌜ r ≡ askedRev (part at 20 (now (asked .entry))) ⌝ }
+    requires { ⌜ at + askedSize ≤ length (now asked) ⌝ }
+    ensures { λ r. ⌜ r ≡ askedRev (part at askedSize (now (asked .entry))) ⌝ }
 {
     let number = get4(asked, at);
-    let hash = get_hash(asked, at + 4);
+    let hash = get_hash(asked, at + ASKED_HASH_IN);
     Revision {
         number: RevNumber(number),
         hash,
@@ -164,23 +150,23 @@ fn asked_rev(asked: &[u8], at: usize) -> Revision
 }
 
 // 0 known, 1 missing.
-fn missing_byte(b: &[u8], base: usize, n: usize, rev: Revision) -> u8
-    requires { ⌜ Searchable base n (now b) ⌝ }
-    ensures { λ r. ⌜ r ≡ missingOf (treeAt base n (now (b .entry))) rev ⌝ }
+fn missing_byte(b: &[u8], body: Body, rev: Revision) -> u8
+    requires { ⌜ Searchable body (now b) ⌝ }
+    ensures { λ r. ⌜ r ≡ missingOf (treeIn body (now (b .entry))) rev ⌝ }
 {
-    if is_missing(b, base, n, rev) { 1 } else { 0 }
+    if is_missing(b, body, rev) { 1 } else { 0 }
 }
 
 // Writes a byte for each asked revision.
-fn put_missing(b: &[u8], base: usize, n: usize, asked: &[u8], out: &mut [u8])
-    requires { ⌜ CanPutMissing base n (now b) (now asked) (now out) ⌝ }
-    ensures { λ _. ⌜ MissingPut (treeAt base n (now (b .entry))) (now (asked .entry)) (now (out .entry)) (now (out .exit)) ⌝ }
+fn put_missing(b: &[u8], body: Body, asked: &[u8], out: &mut [u8])
+    requires { ⌜ CanPutMissing body (now b) (now asked) (now out) ⌝ }
+    ensures { λ _. ⌜ MissingPut (treeIn body (now (b .entry))) (now (asked .entry)) (now (out .entry)) (now (out .exit)) ⌝ }
 {
     let count = asked.len() / ASKED;
     let mut i = 0;
     while i < count {
         let rev = asked_rev(asked, i * ASKED);
-        out[i] = missing_byte(b, base, n, rev);
+        out[i] = missing_byte(b, body, rev);
         i += 1;
     }
 }
@@ -201,6 +187,6 @@ pub fn missing(b: &[u8], id: &[u8], asked: &[u8], out: &mut [u8]) -> Answered
         return Answered::Refused(Refusal::ShortBuffer);
     }
     let body = body_of_id(b, id);
-    put_missing(b, body.base, body.rows, asked, out);
+    put_missing(b, body, asked, out);
     Answered::Count(revisions)
 }

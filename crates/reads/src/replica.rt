@@ -13,17 +13,14 @@ use store::read::id_of;
 use store::read::own_sequence;
 use store::read::revisions_held;
 use store::read::update_sequence;
-use tree::leaf::Winner;
 use tree::leaf::leaf_count;
-use tree::leaf::winner_at;
-use tree::row::Kind;
-use tree::table::kind_at;
+use tree::leaf::winner_of;
+use tree::table::Body;
 ghost use mathlib.Core.Path.{_≡_};
 ghost use Rattle.rules.specs.Outcome.{Does};
 ghost use Rattle.rules.specs.Read.{readChanges, heldIn};
-ghost use Rattle.tree.specs.Table.{treeAt};
+ghost use Rattle.tree.specs.Table.{treeIn, Searchable};
 ghost use Rattle.store.specs.Storage.{replicaOf, IsStored};
-ghost use Rattle.reads.specs.Reads.{CanRead};
 ghost use Rattle.reads.specs.Next.{sooner, IsNext, HasTree, changeRead, deletionWins};
 
 // Document d, whose own sequence is q, where that is above `after` and not above what was found; else
@@ -61,17 +58,16 @@ pub fn next_after(b: &[u8], after: Seq) -> Next
     found
 }
 
-// Whether the winner among n rows is a deletion.
-fn deletion_wins(b: &[u8], base: usize, n: usize) -> bool
-    requires { ⌜ CanRead base n (now b) ⌝ }
-    ensures { λ r. ⌜ r ≡ deletionWins (treeAt base n (now (b .entry))) ⌝ }
+// Whether the winner among the rows is a deletion.
+fn deletion_wins(b: &[u8], body: Body) -> bool
+    requires { ⌜ Searchable body (now b) ⌝ }
+    ensures { λ r. ⌜ r ≡ deletionWins (treeIn body (now (b .entry))) ⌝ }
 {
-    let Winner::At(i) = winner_at(b, base, n) else {
+    let w = winner_of(b, body);
+    if !w.known {
         return false;
-    };
-    let Kind::Leaf(content) = kind_at(b, base, i) else {
-        return false;
-    };
+    }
+    let content = w.content;
     match content {
         Content::Live(_) => false,
         Content::Deleted => true,
@@ -90,11 +86,9 @@ fn answer_change(b: &[u8], d: usize, out: &mut [u8]) -> Changes
     }
     copy_in(out, 0, id);
     let body = body_of(b, d);
-    let base = body.base;
-    let rows = body.rows;
     let seq = own_sequence(b, d);
-    let leaves = leaf_count(b, base, rows);
-    let deleted = deletion_wins(b, base, rows);
+    let leaves = leaf_count(b, body);
+    let deleted = deletion_wins(b, body);
     Changes::Next(Change {
         id_len,
         seq,

@@ -1,9 +1,9 @@
 -- Adding a path oldest first leaves what adding it newest first leaves. Assumes nothing.
-use mathlib.Core.Path.{_≡_, refl, sym, ap, ap₂, _∙_, subst}
+use mathlib.Core.Path.{_≡_, refl, sym, ap, _∙_, subst}
 use mathlib.Core.List.{List, [], _∷_, _++_}
 use mathlib.Core.Logic.{_⊎_, inl, inr, ⊎-elim}
 use mathlib.Core.Option.{Option, none, some}
-use Prim.Native.Nat.{ℕ, zero, suc, pred, _+_, _-_, _*_, _/_, _≤_, _<_}
+use Prim.Native.Nat.{ℕ, zero, suc, _+_, _-_, _≤_, _<_}
 use native.Mathlib.Omega.{arith}
 use lib.ListN.{length, take, drop}
 use Rattle.rules.specs.declared.Content.{Content}
@@ -12,8 +12,8 @@ use Rattle.rules.specs.declared.Order.the-variants.{Less, Equal, Greater}
 use Rattle.rules.specs.declared.Revision.{Revision}
 use Rattle.rules.specs.Map.{Map, find, alter, Ascending}
 use Rattle.rules.specs.Order.{orderRev}
-use Rattle.rules.specs.Replica.{Hash, revision, Node, Tree}
-use Rattle.rules.specs.Choice.{pick}
+use Rattle.rules.specs.Replica.{Hash, Node, Tree}
+use Rattle.rules.specs.Choice.{pick, howMany}
 use Rattle.rules.specs.Write.{along, learn, addAll, isNone, isNew, countNew}
 use Rattle.rules.proofs.OrderLaws.{TotalOrder, less≢equal, equal≢greater, revOrder}
 use Rattle.rules.proofs.MapLaws.{find-same, find-other, ascending-alter, ext}
@@ -52,7 +52,7 @@ module _ {K A : Type 0} (O : TotalOrder K) where
       (equal-or-not (O .cmp v k)))
       (equal-or-not (O .cmp v j))
 
-  pub alter-swap : (j k : K) (f g : Option A → A) (t : Map K A) → Ascending (O .cmp) t → (O .cmp j k ≡ Equal → ⊥) → (O .cmp k j ≡ Equal → ⊥)
+  alter-swap : (j k : K) (f g : Option A → A) (t : Map K A) → Ascending (O .cmp) t → (O .cmp j k ≡ Equal → ⊥) → (O .cmp k j ≡ Equal → ⊥)
       → alter (O .cmp) j f (alter (O .cmp) k g t) ≡ alter (O .cmp) k g (alter (O .cmp) j f t)
   alter-swap j k f g t a n m =
       ext O _ _ (ascending-alter O j f _ (ascending-alter O k g t a)) (ascending-alter O k g _ (ascending-alter O j f t a)) (swap-at j k f g t n m)
@@ -118,7 +118,7 @@ addLast-append (g ∷ gs) hs t = ap (alter orderRev (g .0) (learn (g .1))) (addL
 -- ---- how many revisions it adds
 
 module _ {K A : Type 0} (O : TotalOrder K) where
-  pub length-alter : (k : K) (f : Option A → A) (t : Map K A) → length (alter (O .cmp) k f t) ≡ pick (isNone (find (O .cmp) k t)) 1 0 + length t
+  length-alter : (k : K) (f : Option A → A) (t : Map K A) → length (alter (O .cmp) k f t) ≡ pick (isNone (find (O .cmp) k t)) 1 0 + length t
   unfolding alter find
   length-alter k f [] = refl
   length-alter k f (x ∷ t) = go (O .cmp k (x .0)) refl (length-alter k f t)
@@ -138,7 +138,7 @@ above-stays v (g ∷ gs) t l =
     find-other revOrder v (g .0) (learn (g .1)) (addLast gs t) (number-differs v (g .0) (λ e. omega arith)) ∙ above-stays v gs t (l .1)
 
 pub length-addLast : (gs : List (Revision × Node)) (t : Tree) → Falls gs → length (addLast gs t) ≡ countNew t gs + length t
-unfolding addLast countNew isNew
+unfolding addLast countNew howMany isNew
 length-addLast [] t f = omega arith
 length-addLast (g ∷ gs) t f =
     let a = length-alter revOrder (g .0) (learn (g .1)) (addLast gs t) in
@@ -162,13 +162,13 @@ falls-take (suc m) [] f = tt
 falls-take (suc m) (g ∷ gs) f = (lower-take m (g .0 .number .0) gs (f .0), falls-take m gs (f .1))
 
 pub count-drop : (t : Tree) (k : ℕ) (gs : List (Revision × Node)) → countNew t (drop k gs) ≤ countNew t gs
-unfolding countNew
+unfolding countNew howMany
 count-drop t zero gs = omega arith
 count-drop t (suc k) [] = omega arith
 count-drop t (suc k) (g ∷ gs) = let h = count-drop t k gs in omega arith
 
 pub count-take : (t : Tree) (m : ℕ) (gs : List (Revision × Node)) → countNew t (take m gs) ≤ countNew t gs
-unfolding countNew
+unfolding countNew howMany
 count-take t zero gs = omega arith
 count-take t (suc m) [] = omega arith
 count-take t (suc m) (g ∷ gs) = let h = count-take t m gs in omega arith

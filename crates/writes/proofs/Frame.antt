@@ -7,35 +7,67 @@ use Rattle.rules.specs.declared.Outcome.the-variants.{Unchanged}
 use Rattle.rules.specs.declared.Refusal.{Refusal}
 use Rattle.rules.specs.declared.Written.{Written}
 use Rattle.rules.specs.declared.Written.the-variants.{Accepted, Refused}
+use Rattle.rules.specs.Outcome.{Call}
 use Rattle.rules.specs.Replica.{Id, Replica, documentOf, IsReplica}
 use Rattle.rules.specs.Write.{Write}
-use Rattle.store.specs.Storage.{replicaOf, stored}
+use Rattle.store.specs.Storage.{replicaOf, stored, IsStored}
 use Rattle.union.specs.Said.{SameAnswers, AlikeAt}
+use Rattle.union.proofs.Apart.{same-answers}
 use Rattle.union.proofs.Demand3 as union
-use Rattle.writes.specs.Always.{Always, AlwaysBy}
 use Rattle.writes.specs.Judge.{Wrote}
 use Rattle.writes.specs.Path.{writeOf}
 use Rattle.writes.proofs.write.Kinds as write
 use Rattle.writes.proofs.write.Reads as write'
 
--- "Replicas are only what this tool's calls make .. that each call leaves one is proved."
-pub write-replica : Always _ write.ps write.r write'.Asked write'.Learnt (λ κs a s. IsReplica (replicaOf (s .0 .now)))
-write-replica κs a x s h p = p .is .replica
+-- what a change to the document i leaves of what was lent
+pub record Framed (i : Id) (lent left : List ℕ) : Type 0 where
+  -- "Replicas are only what this tool's calls make .. that each call leaves one is proved."
+  pub replica : IsReplica (replicaOf left)
+  -- all that is held of another document stays
+  pub frame : (j : Id) → (j ≡ i → ⊥) → documentOf (replicaOf left) j ≡ documentOf (replicaOf lent) j
+  -- "A write to one document changes no answer about another document's revisions, parents, leaves,
+  -- contents, winner or own sequence": nor does an edit
+  pub answers : (j : Id) → (j ≡ i → ⊥) → SameAnswers j (replicaOf left) (replicaOf lent)
+  -- the replica stands in the lent bytes: where it stays, every byte does
+  pub same : replicaOf left ≡ replicaOf lent → left ≡ lent
 
--- "A write to one document changes no answer about another document's revisions, parents, leaves,
--- contents, winner or own sequence"
-pub write-answers : Always _ write.ps write.r write'.Asked write'.Learnt
-    (λ κs a s. (j : Id) → (j ≡ a .1 .0 .now → ⊥) → SameAnswers j (replicaOf (s .0 .now)) (replicaOf (a .0 .now)))
-write-answers κs a x s h p j n =
-    rw (p .means)
-    (union.write-answers (replicaOf (a .0 .now)) (writeOf (a .1 .0 .now) (a .1 .1 .0) (a .1 .1 .1 .0 .now) (a .1 .1 .1 .1 .0)) j n)
+pub framed : (i : Id) (s t : List ℕ) {r : Replica} → IsStored s → IsStored t → replicaOf t ≡ r
+    → ((j : Id) → (j ≡ i → ⊥) → documentOf r j ≡ documentOf (replicaOf s) j) → Framed i s t
+framed i s t {r} k l e f = record {
+  replica = l .replica;
+  frame = stays;
+  answers = λ j n. same-answers j (replicaOf t) (replicaOf s) (stays j n);
+  same = λ q. l .same ∙ (ap stored q ∙ sym (k .same));
+}
+  where
+    stays : (j : Id) → (j ≡ i → ⊥) → documentOf (replicaOf t) j ≡ documentOf (replicaOf s) j
+    stays j n = ap (λ (x : Replica). documentOf x j) e ∙ f j n
 
--- all that is held of another document stays
-pub write-frame : Always _ write.ps write.r write'.Asked write'.Learnt
-    (λ κs a s. (j : Id) → (j ≡ a .1 .0 .now → ⊥) → documentOf (replicaOf (s .0 .now)) j ≡ documentOf (replicaOf (a .0 .now)) j)
-write-frame κs a x s h p j n =
-    ap (λ (r : Replica). documentOf r j) (p .means)
-    ∙ union.write-frame (replicaOf (a .0 .now)) (writeOf (a .1 .0 .now) (a .1 .1 .0) (a .1 .1 .1 .0 .now) (a .1 .1 .1 .1 .0)) j n
+-- a call of the compiled write, by the names of what it is given and what it leaves
+module _ (c : Call _ write.ps write.r write'.Asked write'.Learnt) where
+  abbrev lent : List ℕ
+  lent = c .args .0 .now
+
+  abbrev left : List ℕ
+  left = c .exit .0 .now
+
+  abbrev given : Write
+  given = writeOf (c .args .1 .0 .now) (c .args .1 .1 .0) (c .args .1 .1 .1 .0 .now) (c .args .1 .1 .1 .1 .0)
+
+  pub write-framed : Framed (given .id) lent left
+  write-framed = framed (given .id) lent left (c .asks) (c .promise .is) (c .promise .means) (union.write-frame (replicaOf lent) given)
+
+  -- "A refusal .. alters neither replica nor buffer"
+  pub write-refused : (n : Refusal) → c .result ≡ Refused n → left ≡ lent
+  write-refused n e =
+      let p = c .promise in
+      write-framed .same (p .means ∙ union.write-refused (replicaOf lent) given n (sym (p .answer) ∙ e))
+
+  -- "Where nothing was added the answer is unchanged and the sequence stays": so does every byte.
+  pub write-unchanged : c .result ≡ Accepted Unchanged → left ≡ lent
+  write-unchanged e =
+      let p = c .promise in
+      write-framed .same (p .means ∙ union.write-unchanged (replicaOf lent) given (sym (p .answer) ∙ e))
 
 -- "Only the update sequence and the shared room connect them.": a write to buffers alike in its document, in
 -- update sequence and in both counts is answered alike, and leaves them alike in these
@@ -43,17 +75,3 @@ pub write-alike : (w : Write) (s t : List ℕ) (x y : Written) (s′ t′ : List
     → (x ≡ y) × AlikeAt (w .id) (replicaOf s′) (replicaOf t′)
 write-alike w s t x y s′ t′ h p q =
     let u = union.write-alike w (replicaOf s) (replicaOf t) h in (p .answer ∙ (u .0 ∙ sym (q .answer)), rw (p .means, q .means) (u .1))
-
--- "A refusal .. alters neither replica nor buffer": the replica stands in the lent bytes.
-pub write-refused : AlwaysBy _ write.ps write.r write'.Asked write'.Learnt (λ κs a x s. (n : Refusal) → x ≡ Refused n → s .0 .now ≡ a .0 .now)
-write-refused κs a x s h p n e =
-    p .left
-    ∙ (ap stored (union.write-refused (replicaOf (a .0 .now)) (writeOf (a .1 .0 .now) (a .1 .1 .0) (a .1 .1 .1 .0 .now) (a .1 .1 .1 .1 .0)) n (sym (p .answer) ∙ e))
-    ∙ sym (h .same))
-
--- "Where nothing was added the answer is unchanged and the sequence stays": so does every byte.
-pub write-unchanged : AlwaysBy _ write.ps write.r write'.Asked write'.Learnt (λ κs a x s. x ≡ Accepted Unchanged → s .0 .now ≡ a .0 .now)
-write-unchanged κs a x s h p e =
-    p .left
-    ∙ (ap stored (union.write-unchanged (replicaOf (a .0 .now)) (writeOf (a .1 .0 .now) (a .1 .1 .0) (a .1 .1 .1 .0 .now) (a .1 .1 .1 .1 .0)) (sym (p .answer) ∙ e))
-    ∙ sym (h .same))

@@ -1,8 +1,8 @@
 -- What a write is, from its form, its plan and the verdict. Assumes nothing.
-use mathlib.Core.Path.{_≡_, refl, sym, ap, ap₂, _∙_}
+use mathlib.Core.Path.{_≡_, refl, sym, ap, _∙_}
 use mathlib.Core.Bool.{Bool, true, false, not, _&&_}
 use mathlib.Core.List.{List, [], _∷_, _++_}
-use mathlib.Core.Option.{Option, none, some}
+use mathlib.Core.Option.{none, some}
 use Prim.Native.Nat.{ℕ, _+_, _≤_, _<_}
 use native.Mathlib.Omega.{arith}
 use lib.Dec.{eqb, leb, ltb}
@@ -10,17 +10,17 @@ use lib.ListN.{length}
 use borrow.Author.Tests.{ltb-false, eqb-false, leb-false, ne-eqb}
 use Rattle.rules.specs.declared.Outcome.the-variants.{Changed, Unchanged}
 use Rattle.rules.specs.declared.Refusal.{Refusal}
-use Rattle.rules.specs.declared.Refusal.the-variants.{BadId, BadPath, LowNumber, OtherParent, OtherContent, DocumentsFull, RevisionsFull, SequenceSpent}
-use Rattle.rules.specs.declared.Written.{Written}
+use Rattle.rules.specs.declared.Refusal.the-variants.{OtherParent, OtherContent, DocumentsFull, RevisionsFull, SequenceSpent}
 use Rattle.rules.specs.declared.Written.the-variants.{Accepted, Refused}
 use Rattle.rules.specs.Choice.{pick, firstThat, any}
 use Rattle.rules.specs.Replica.{Replica, Tree, documentOf, treeOf, revisionsHeld}
-use Rattle.rules.specs.Room.{documentsMost, revisionsMost, last}
-use Rattle.rules.specs.Write.{Write, gives, added, adds, isNone, countNew, badId, badPath, lowNumber, otherParent, otherContent, documentsFull, revisionsFull, sequenceSpent, formRefusals, roomRefusals, writeRefusals, settle, write}
+use Rattle.rules.specs.Room.{documentsMost, revisionsMost, seqMost}
+use Rattle.rules.specs.Write.{Write, gives, added, adds, isNone, otherParent, otherContent, documentsFull, revisionsFull, sequenceSpent, formRefusals, roomRefusals, writeRefusals, settle, write}
+use Rattle.rules.proofs.ChoiceLaws.{none-holds, holds-none}
+use Rattle.rules.proofs.GivenLaws.{adds-any}
 use Rattle.writes.specs.declared.plan.Plan.{Plan}
 use Rattle.writes.specs.Judge.{judged}
 use Rattle.writes.specs.Plan.{planOf}
-use Rattle.writes.proofs.FormLaws.{none-first, first-empty, first-holds, first-fails}
 use Rattle.writes.proofs.PlanLaws.{plan-crossed, plan-other, plan-revisions, plan-adds}
 
 first-append : {A : Type 0} (xs ys : List (Bool × A)) → firstThat xs ≡ none → firstThat (xs ++ ys) ≡ firstThat ys
@@ -48,15 +48,18 @@ module _ (r : Replica) (w : Write) where
   write-formless n e = ap (settle Refused r (pick (adds r w) (Accepted Changed, added r w) (Accepted Unchanged, r))) (some-append (formRefusals w) _ n e)
 
   -- the plan decides the rest
-  pub judged-right : judged r (isNone (documentOf r (w .id))) p
+  reach-adds : not (eqb (p .reach) 0) ≡ adds r w
+  reach-adds = plan-adds t (gives w) ∙ sym (adds-any r w)
+
+  judged-right : judged r (isNone (documentOf r (w .id))) p
       ≡ (any (otherParent t) (gives w), OtherParent) ∷ (any (otherContent t) (gives w), OtherContent) ∷ roomRefusals r w
-  unfolding judged roomRefusals documentsFull revisionsFull sequenceSpent adds
+  unfolding judged roomRefusals documentsFull revisionsFull sequenceSpent
   judged-right = λ i.
       (plan-crossed t (gives w) i, OtherParent)
       ∷ (plan-other t (gives w) i, OtherContent)
       ∷ (isNone (documentOf r (w .id)) && leb documentsMost (length (r .documents)), DocumentsFull)
       ∷ (ltb revisionsMost (revisionsHeld (r .documents) + plan-revisions t (gives w) i), RevisionsFull)
-      ∷ (plan-adds t (gives w) i && eqb (r .seq .0) last, SequenceSpent)
+      ∷ (reach-adds i && eqb (r .seq .0) seqMost, SequenceSpent)
       ∷ []
 
   module _ (form : firstThat (formRefusals w) ≡ none) where
@@ -74,12 +77,10 @@ module _ (r : Replica) (w : Write) where
       accepted = ap (settle Refused r (pick (adds r w) (Accepted Changed, added r w) (Accepted Unchanged, r))) (refusals ∙ clear)
 
       pub write-same : eqb (p .reach) 0 ≡ true → write r w ≡ (Accepted Unchanged, r)
-      unfolding adds
-      write-same e = accepted ∙ ap (λ (b : Bool). pick b (Accepted Changed, added r w) (Accepted Unchanged, r)) (sym (plan-adds t (gives w)) ∙ ap not e)
+      write-same e = accepted ∙ ap (λ (b : Bool). pick b (Accepted Changed, added r w) (Accepted Unchanged, r)) (sym reach-adds ∙ ap not e)
 
       pub write-changed : eqb (p .reach) 0 ≡ false → write r w ≡ (Accepted Changed, added r w)
-      unfolding adds
-      write-changed e = accepted ∙ ap (λ (b : Bool). pick b (Accepted Changed, added r w) (Accepted Unchanged, r)) (sym (plan-adds t (gives w)) ∙ ap not e)
+      write-changed e = accepted ∙ ap (λ (b : Bool). pick b (Accepted Changed, added r w) (Accepted Unchanged, r)) (sym reach-adds ∙ ap not e)
 
 -- ---- what a clear verdict says
 
@@ -87,21 +88,17 @@ pub record Clear (r : Replica) (absent : Bool) (p : Plan) : Type 0 where
   pub crossed : p .crossed ≡ false
   pub documents : absent ≡ true → length (r .documents) < documentsMost
   pub revisions : revisionsHeld (r .documents) + p .revisions ≤ revisionsMost
-  pub seq : (p .reach ≡ 0 → ⊥) → r .seq .0 ≡ last → ⊥
+  pub seq : (p .reach ≡ 0 → ⊥) → r .seq .0 ≡ seqMost → ⊥
 
 pub clear-says : (r : Replica) (absent : Bool) (p : Plan) → firstThat (judged r absent p) ≡ none → Clear r absent p
 unfolding judged
 clear-says r absent p e =
-    let a = none-first (p .crossed) OtherParent _ e in
-    let b = none-first (p .other) OtherContent _ (a .1) in
-    let c = none-first (absent && leb documentsMost (length (r .documents))) DocumentsFull _ (b .1) in
-    let d = none-first (ltb revisionsMost (revisionsHeld (r .documents) + p .revisions)) RevisionsFull _ (c .1) in
-    let f = none-first (not (eqb (p .reach) 0) && eqb (r .seq .0) last) SequenceSpent [] (d .1) in
+    let a = none-holds (judged r absent p) e in
     record {
       crossed = a .0;
-      documents = λ q. leb-false documentsMost (length (r .documents)) (and-true absent _ q (c .0));
-      revisions = ltb-false revisionsMost (revisionsHeld (r .documents) + p .revisions) (d .0);
-      seq = λ n. eqb-false (r .seq .0) last (and-true (not (eqb (p .reach) 0)) _ (ap not (ne-eqb (p .reach) 0 n)) (f .0));
+      documents = λ q. leb-false documentsMost (length (r .documents)) (and-true absent _ q (a .1 .1 .0));
+      revisions = ltb-false revisionsMost (revisionsHeld (r .documents) + p .revisions) (a .1 .1 .1 .0);
+      seq = λ n. eqb-false (r .seq .0) seqMost (and-true (not (eqb (p .reach) 0)) _ (ap not (ne-eqb (p .reach) 0 n)) (a .1 .1 .1 .1 .0));
     }
   where
     and-true : (a b : Bool) → a ≡ true → (a && b) ≡ false → b ≡ false
@@ -111,36 +108,35 @@ clear-says r absent p e =
 -- ---- the verdict, test by test
 
 module _ (r : Replica) (absent : Bool) (p : Plan) where
-  abbrev full : Bool
+  abbrev pub full : Bool
   full = absent && leb documentsMost (length (r .documents))
 
-  abbrev over : Bool
+  abbrev pub over : Bool
   over = ltb revisionsMost (revisionsHeld (r .documents) + p .revisions)
 
   abbrev spent : Bool
-  spent = not (eqb (p .reach) 0) && eqb (r .seq .0) last
+  spent = not (eqb (p .reach) 0) && eqb (r .seq .0) seqMost
 
   pub judge-4 : p .crossed ≡ true → firstThat (judged r absent p) ≡ some OtherParent
-  unfolding judged
-  judge-4 a = first-holds (p .crossed) OtherParent _ a
+  unfolding judged firstThat
+  judge-4 a = rw a refl
 
   pub judge-5 : p .crossed ≡ false → p .other ≡ true → firstThat (judged r absent p) ≡ some OtherContent
-  unfolding judged
-  judge-5 a b = first-fails (p .crossed) OtherParent _ a ∙ first-holds (p .other) OtherContent _ b
-
-  past-5 : p .crossed ≡ false → p .other ≡ false → firstThat (judged r absent p) ≡ firstThat ((full, DocumentsFull) ∷ (over, RevisionsFull) ∷ (spent, SequenceSpent) ∷ [])
-  unfolding judged
-  past-5 a b = first-fails (p .crossed) OtherParent _ a ∙ first-fails (p .other) OtherContent _ b
+  unfolding judged firstThat
+  judge-5 a b = rw (a, b) refl
 
   pub judge-6 : p .crossed ≡ false → p .other ≡ false → full ≡ true → firstThat (judged r absent p) ≡ some DocumentsFull
-  judge-6 a b c = past-5 a b ∙ first-holds full DocumentsFull _ c
+  unfolding judged firstThat
+  judge-6 a b c = rw (a, b, c) refl
 
   pub judge-7 : p .crossed ≡ false → p .other ≡ false → full ≡ false → over ≡ true → firstThat (judged r absent p) ≡ some RevisionsFull
-  judge-7 a b c d = past-5 a b ∙ (first-fails full DocumentsFull _ c ∙ first-holds over RevisionsFull _ d)
+  unfolding judged firstThat
+  judge-7 a b c d = rw (a, b, c, d) refl
 
   pub judge-8 : p .crossed ≡ false → p .other ≡ false → full ≡ false → over ≡ false → spent ≡ true → firstThat (judged r absent p) ≡ some SequenceSpent
-  judge-8 a b c d e = past-5 a b ∙ (first-fails full DocumentsFull _ c ∙ (first-fails over RevisionsFull _ d ∙ first-holds spent SequenceSpent [] e))
+  unfolding judged firstThat
+  judge-8 a b c d e = rw (a, b, c, d, e) refl
 
   pub judge-clear : p .crossed ≡ false → p .other ≡ false → full ≡ false → over ≡ false → spent ≡ false → firstThat (judged r absent p) ≡ none
-  judge-clear a b c d e =
-      past-5 a b ∙ (first-fails full DocumentsFull _ c ∙ (first-fails over RevisionsFull _ d ∙ (first-fails spent SequenceSpent [] e ∙ first-empty)))
+  unfolding judged
+  judge-clear a b c d e = holds-none (judged r absent p) (a, (b, (c, (d, (e, tt)))))

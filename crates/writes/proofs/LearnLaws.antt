@@ -1,32 +1,31 @@
 -- The loop that adds a path: what is held after each revision, and that there is room for the next. Assumes nothing.
-use mathlib.Core.Path.{_≡_, refl, sym, ap, ap₂, _∙_, subst}
+use mathlib.Core.Path.{_≡_, sym, ap, ap₂, _∙_, subst}
 use mathlib.Core.List.{List, [], _∷_}
 use mathlib.Core.Option.{Option, none, some}
 use Prim.Native.Nat.{ℕ, zero, suc, _+_, _-_, _≤_, _<_}
 use native.Mathlib.Numerals.{add-one}
 use native.Mathlib.Omega.{arith}
-use lib.ListN.{length, getD, take, drop, length-take, drop-of-length-le}
+use lib.ListN.{length, take, drop, drop-of-length-le}
 use Rattle.rules.specs.declared.Content.{Content}
 use Rattle.rules.specs.declared.Revision.{Revision}
 use Rattle.rules.specs.declared.RevNumber.{RevNumber}
 use Rattle.rules.specs.declared.Seq.{Seq}
-use Rattle.rules.specs.Choice.{pick}
+use Rattle.rules.specs.Choice.{pick, howMany}
 use Rattle.rules.specs.Map.{Map, find, alter, Ascending}
 use Rattle.rules.specs.Order.{orderRev}
 use Rattle.rules.specs.Replica.{Id, Node, Tree, Document, Replica, revisionsHeld}
-use Rattle.rules.specs.Room.{revisionsMost, hashesMost}
+use Rattle.rules.specs.Room.{revisionsMost}
 use Rattle.rules.specs.Write.{Write, hashes, gives, learn, next, isNone, isNew, countNew}
-use Rattle.store.specs.declared.read.Body.{Body}
-use Rattle.store.specs.Storage.{stored, replicaOf, Laid}
+use Rattle.tree.specs.declared.table.Body.{Body}
+use Rattle.store.specs.Storage.{stored, replicaOf}
 use Rattle.store.specs.Documents.{noDocument, documentsOf, documentAt, HasDocument, IsBody}
-use Rattle.store.specs.Change.{modify, setTree, withTree, withSeq, Holds, CanLearn, Learnt}
-use Rattle.store.proofs.StoredLaws.{size-laid}
+use Rattle.store.specs.Change.{setTree, withTree, withSeq, Holds, CanLearn, Learnt}
 use Rattle.store.proofs.TableLaws.{length-modify}
 use Rattle.writes.specs.Path.{countOf, givenAt, writeOf, givesOf, addLast}
-use Rattle.writes.specs.Apply.{CanLearnPath}
-use Rattle.writes.proofs.PathLaws.{length-gives, gives-next}
+use Rattle.writes.specs.Apply.{CanApply}
+use Rattle.writes.proofs.PathLaws.{gives-next}
 use Rattle.writes.proofs.FormLaws.{length-hashes}
-use Rattle.writes.proofs.AddLaws.{Lower, Falls, falls-along, falls-drop, falls-take, above-stays, length-addLast, ascending-addLast, count-drop, count-take, next-taken}
+use Rattle.writes.proofs.AddLaws.{Falls, falls-along, falls-drop, falls-take, above-stays, length-addLast, ascending-addLast, count-drop, count-take, next-taken}
 use Rattle.writes.proofs.StateLaws.{modify-none, modify-twice, at-modify, held-tree}
 
 -- ---- what a write gives falls
@@ -41,19 +40,19 @@ falls-gives number path c h =
 
 -- what document d of a replica becomes
 module _ (r : Replica) (d : ℕ) (f : Tree → Tree) (h : d < length (r .documents)) where
-  pub tree-with : documentAt (withTree d f r .documents) d .1 .tree ≡ f (documentAt (r .documents) d .1 .tree)
+  tree-with : documentAt (withTree d f r .documents) d .1 .tree ≡ f (documentAt (r .documents) d .1 .tree)
   unfolding withTree documentAt
   tree-with = ap (λ (x : Id × Document). x .1 .tree) (at-modify d (setTree f) (r .documents) noDocument h)
 
-  pub held-with : revisionsHeld (withTree d f r .documents) + length (documentAt (r .documents) d .1 .tree) ≡ revisionsHeld (r .documents) + length (f (documentAt (r .documents) d .1 .tree))
+  held-with : revisionsHeld (withTree d f r .documents) + length (documentAt (r .documents) d .1 .tree) ≡ revisionsHeld (r .documents) + length (f (documentAt (r .documents) d .1 .tree))
   unfolding withTree
   held-with = held-tree d f (r .documents) h
 
-pub with-none : (r : Replica) (d : ℕ) → withTree d (addLast []) r ≡ r
+with-none : (r : Replica) (d : ℕ) → withTree d (addLast []) r ≡ r
 unfolding withTree addLast
 with-none r d = ap {B = Replica} (λ (ds : Map Id Document). record { seq = r .seq; documents = ds }) (modify-none d (r .documents))
 
-pub with-twice : (r : Replica) (d : ℕ) (f g : Tree → Tree) → withTree d f (withTree d g r) ≡ withTree d (λ t. f (g t)) r
+with-twice : (r : Replica) (d : ℕ) (f g : Tree → Tree) → withTree d f (withTree d g r) ≡ withTree d (λ t. f (g t)) r
 unfolding withTree
 with-twice r d f g = ap {B = Replica} (λ (ds : Map Id Document). record { seq = r .seq; documents = ds }) (modify-twice d (setTree f) (setTree g) (r .documents))
 
@@ -77,8 +76,8 @@ module _ (r : Replica) (d : ℕ) (gs : List (Revision × Node)) (h : d < length 
   abbrev t : Tree
   t = documentAt (r .documents) d .1 .tree
 
-  pub learning-can : (k : ℕ) (b : Body) (s : List ℕ) (v : Revision × Node) → drop k gs ≡ v ∷ drop (suc k) gs → Learning r d gs (suc k) b s → CanLearn s d b v
-  unfolding countNew isNew
+  learning-can : (k : ℕ) (b : Body) (s : List ℕ) (v : Revision × Node) → drop k gs ≡ v ∷ drop (suc k) gs → Learning r d gs (suc k) b s → CanLearn s d b v
+  unfolding countNew howMany isNew
   learning-can k b s v e l =
       let rest = drop (suc k) gs in
       let m : documentsOf s ≡ withTree d (addLast rest) r .documents = ap (λ (x : Replica). x .documents) (l .holds .means) in
@@ -98,7 +97,7 @@ module _ (r : Replica) (d : ℕ) (gs : List (Revision × Node)) (h : d < length 
             omega arith;
       }
 
-  pub learning-next : (k : ℕ) (b b′ : Body) (s s′ : List ℕ) (v : Revision × Node) → drop k gs ≡ v ∷ drop (suc k) gs → Learning r d gs (suc k) b s → Learnt s d v b′ s′ → Learning r d gs k b′ s′
+  learning-next : (k : ℕ) (b b′ : Body) (s s′ : List ℕ) (v : Revision × Node) → drop k gs ≡ v ∷ drop (suc k) gs → Learning r d gs (suc k) b s → Learnt s d v b′ s′ → Learning r d gs k b′ s′
   unfolding addLast
   learning-next k b b′ s s′ v e l n =
       let rest = drop (suc k) gs in
@@ -112,7 +111,7 @@ module _ (r : Replica) (d : ℕ) (gs : List (Revision × Node)) (h : d < length 
 
 -- ---- the loop over a path
 
-module _ (s : List ℕ) (d : ℕ) (b : Body) (number : RevNumber) (path : List ℕ) (c : Content) (m : ℕ) (can : CanLearnPath s d b number path c m) where
+module _ {s : List ℕ} {d : ℕ} {b : Body} {number : RevNumber} {path : List ℕ} {c : Content} {m : ℕ} (can : CanApply s d b number path c m) where
   abbrev newest : List (Revision × Node)
   newest = take m (givesOf number path c)
 
@@ -131,31 +130,28 @@ module _ (s : List ℕ) (d : ℕ) (b : Body) (number : RevNumber) (path : List �
   room : revisionsHeld (replicaOf s .documents) + countNew (documentAt (replicaOf s .documents) d .1 .tree) newest ≤ revisionsMost
   room = let e = count-take (documentAt (replicaOf s .documents) d .1 .tree) m (givesOf number path c) in let r = can .room in omega arith
 
-  pub path-can : (k : ℕ) (b′ : Body) (s′ : List ℕ) (v : Revision × Node) → 0 < k → k ≤ m → v ≡ givenAt (number .0) path c (k - 1)
+  pub path-can : (k : ℕ) {b′ : Body} {s′ : List ℕ} {v : Revision × Node} → 0 < k → k ≤ m → v ≡ givenAt (number .0) path c (k - 1)
       → Learning (replicaOf s) d newest k b′ s′ → CanLearn s′ d b′ v
-  path-can zero b′ s′ v p q e l = absurd (omega arith)
-  path-can (suc k) b′ s′ v p q e l =
+  path-can zero p q e l = absurd (omega arith)
+  path-can (suc k) {b′} {s′} {v} p q e l =
       let z : suc k - 1 ≡ k = omega arith in
       let f : v ≡ givenAt (number .0) path c k = e ∙ ap (givenAt (number .0) path c) z in
       learning-can (replicaOf s) d newest within falls (can .ascending) room k b′ s′ v
       (path-at k (omega arith) ∙ ap (λ (x : Revision × Node). x ∷ drop (suc k) newest) (sym f)) l
 
-  pub path-next : (k : ℕ) (b′ b″ : Body) (s′ s″ : List ℕ) (v : Revision × Node) → 0 < k → k ≤ m → v ≡ givenAt (number .0) path c (k - 1)
+  pub path-next : (k : ℕ) {b′ b″ : Body} {s′ s″ : List ℕ} {v : Revision × Node} → 0 < k → k ≤ m → v ≡ givenAt (number .0) path c (k - 1)
       → Learning (replicaOf s) d newest k b′ s′ → Learnt s′ d v b″ s″ → Learning (replicaOf s) d newest (k - 1) b″ s″
-  path-next zero b′ b″ s′ s″ v p q e l n = absurd (omega arith)
-  path-next (suc k) b′ b″ s′ s″ v p q e l n =
+  path-next zero p q e l n = absurd (omega arith)
+  path-next (suc k) {b′} {b″} {s′} {s″} {v} p q e l n =
       let z : suc k - 1 ≡ k = omega arith in
       let f : v ≡ givenAt (number .0) path c k = e ∙ ap (givenAt (number .0) path c) z in
       subst (λ (j : ℕ). Learning (replicaOf s) d newest j b″ s″) (sym z)
       (learning-next (replicaOf s) d newest within falls (can .ascending) room k b′ b″ s′ s″ v
       (path-at k (omega arith) ∙ ap (λ (x : Revision × Node). x ∷ drop (suc k) newest) (sym f)) l n)
 
-  pub path-end : (k : ℕ) (b′ : Body) (s′ : List ℕ) → k ≤ 0 → Learning (replicaOf s) d newest k b′ s′ → Holds (withTree d (addLast newest) (replicaOf s)) s′
-  path-end zero b′ s′ h l = l .holds
-  path-end (suc k) b′ s′ h l = absurd (omega arith)
-
-  pub path-length : (k : ℕ) (b′ : Body) (s′ : List ℕ) → Learning (replicaOf s) d newest k b′ s′ → length s′ ≡ length s
-  path-length k b′ s′ l = size-laid s′ (l .holds .laid) ∙ sym (size-laid s (can .body .document .laid))
+  pub path-end : (k : ℕ) {b′ : Body} {s′ : List ℕ} → k ≤ 0 → Learning (replicaOf s) d newest k b′ s′ → Holds (withTree d (addLast newest) (replicaOf s)) s′
+  path-end zero h l = l .holds
+  path-end (suc k) h l = absurd (omega arith)
 
 -- ---- the sequence after it
 

@@ -3,7 +3,6 @@ pub mod PathLaws
 pub mod AddLaws
 pub mod PlanLaws
 pub mod ReachLaws
-pub mod EditLaws
 pub mod FormLaws
 pub mod PassLaws
 pub mod SettledLaws

@@ -3,7 +3,7 @@ use mathlib.Core.Path.{_≡_, refl, sym, ap, ap₂, _∙_, subst}
 use mathlib.Core.Bool.{Bool, true, false, not, _||_}
 use mathlib.Core.List.{List, [], _∷_, _++_}
 use mathlib.Core.Option.{Option, none, some}
-use Prim.Native.Nat.{ℕ, zero, suc, pred, _+_, _-_, _*_, _≤_, _<_}
+use Prim.Native.Nat.{ℕ, suc, pred, _+_, _-_, _≤_, _<_}
 use native.Mathlib.Nat.{add-zero}
 use native.Mathlib.Numerals.{add-one, sub-one}
 use native.Mathlib.Omega.{arith}
@@ -17,28 +17,26 @@ use Rattle.rules.specs.declared.Order.the-variants.{Less, Equal, Greater}
 use Rattle.rules.specs.declared.Revision.{Revision}
 use Rattle.rules.specs.declared.RevNumber.{RevNumber}
 use Rattle.rules.specs.Choice.{pick, maybe}
-use Rattle.rules.specs.Map.{byOrder, find, Below, Ascending}
-use Rattle.rules.specs.Order.{orderN, andThen, isEqual, orderBytes, orderRev, sameRev}
-use Rattle.rules.specs.Read.{parentIn}
+use Rattle.rules.specs.Map.{byOrder, find, Below}
+use Rattle.rules.specs.Order.{andThen, isEqual, orderBytes, orderRev, sameRev}
 use Rattle.rules.specs.Replica.{Hash, revision, Node, Tree}
-use Rattle.rules.specs.Write.{Write, gives, isNone, lacksParent, isNew, isAddition, differ, otherParent, agree, otherContent}
+use Rattle.rules.specs.Write.{Write, gives, isNone, lacksParent, isNew, isAddition, differ, otherParent, agree, otherContent, parentIn, isNewParent}
 use Rattle.rules.proofs.OrderLaws.{orderN-self, less-orderN, revOrder}
 use Rattle.rules.proofs.MapLaws.{find-below}
-use Rattle.tree.specs.declared.row.Kind.{Kind}
 use Rattle.tree.specs.declared.row.Row.{Row}
-use Rattle.tree.specs.declared.table.Found.{Found}
 use Rattle.tree.specs.declared.table.Found.the-variants.{At, Gap}
 use Rattle.tree.specs.Rows.{contentOf, parentOf, meaning, rowAt}
-use Rattle.tree.specs.Table.{treeAt, placeOf, Searchable}
+use Rattle.tree.specs.declared.table.Body.{Body}
+use Rattle.tree.specs.Table.{body, treeAt, treeIn, rowStart, place, placeOf}
 use Rattle.tree.proofs.RowLaws.{row-at-means}
 use Rattle.tree.proofs.TableLaws.{noRow, length-tree, tree-row, tree-take}
 use Rattle.tree.proofs.PlaceLaws.{place-at, place-gap}
-use Rattle.tree.proofs.SearchLaws.{ascending-take}
 use Rattle.writes.specs.declared.plan.Pass.{Pass}
 use Rattle.writes.specs.declared.plan.Plan.{Plan}
 use Rattle.writes.specs.Path.{countOf, hashAt, revAt, parentAt, contentAt, givenAt, writeOf, givesOf}
-use Rattle.writes.specs.Plan.{isNewParent, noPlan, planned, planFrom, planOf, Stepped}
+use Rattle.writes.specs.Plan.{noPlan, planned, planFrom, planOf, Stepped}
 use Rattle.writes.proofs.PathLaws.{length-gives, gives-next}
+use Rattle.writes.proofs.PlanLaws.{or-false}
 
 -- ---- what a path gives, as a row
 
@@ -67,7 +65,7 @@ module _ (number : ℕ) (path : List ℕ) (c : Content) (k : ℕ) (r : Row) (rev
 
 -- ---- a row's parent
 
-pub has-parent : (r : Row) → not (isNone (meaning r .1 .parent)) ≡ r .known
+has-parent : (r : Row) → not (isNone (meaning r .1 .parent)) ≡ r .known
 unfolding meaning
 has-parent r = go (r .known)
   where
@@ -116,58 +114,53 @@ module _ (h g : Row) where
 
 -- ---- the plan with one revision more
 
-or-none : (a : Bool) → (a || false) ≡ a
-or-none true = refl
-or-none false = refl
+-- from what the tree knows of it
+abbrev over : ℕ → Plan → Revision × Node → Option Node → Plan
+over k p g o = record {
+  crossed = p .crossed || maybe false (λ n. differ sameRev (n .parent) (g .1 .parent)) o;
+  other = p .other || maybe false (λ n. differ agree (n .content) (g .1 .content)) o;
+  revisions = p .revisions + pick (isNone o) 1 0;
+  parents = p .parents + pick (lacksParent (g .1 .parent) (parentIn o)) 1 0;
+  reach = pick (maybe true (λ n. lacksParent (g .1 .parent) (n .parent)) o) (k + 2) (p .reach);
+}
 
-pub new-planned : (t : Tree) (k : ℕ) (p : Plan) (g : Revision × Node) → find orderRev (g .0) t ≡ none
-    → planned t k p g ≡ record { crossed = p .crossed; other = p .other; revisions = p .revisions + 1; parents = p .parents + pick (not (isNone (g .1 .parent))) 1 0; reach = k + 2 }
-unfolding planned isNew isNewParent isAddition otherParent otherContent
-new-planned t k p g e =
-    ap (λ (o : Option Node). record {
-      crossed = p .crossed || maybe false (λ n. differ sameRev (n .parent) (g .1 .parent)) o;
-      other = p .other || maybe false (λ n. differ agree (n .content) (g .1 .content)) o;
-      revisions = p .revisions + pick (isNone o) 1 0;
-      parents = p .parents + pick (lacksParent (g .1 .parent) (parentIn o)) 1 0;
-      reach = pick (maybe true (λ n. lacksParent (g .1 .parent) (n .parent)) o) (k + 2) (p .reach);
-    }) e
-    ∙ (λ i. record {
-      crossed = or-none (p .crossed) i;
-      other = or-none (p .other) i;
-      revisions = p .revisions + 1;
-      parents = p .parents + pick (lacks-none (g .1 .parent) i) 1 0;
-      reach = k + 2;
-    })
+module _ (t : Tree) (k : ℕ) (p : Plan) (g : Revision × Node) where
+  planned-over : (o : Option Node) → find orderRev (g .0) t ≡ o → planned t k p g ≡ over k p g o
+  unfolding planned isNew isNewParent isAddition otherParent otherContent
+  planned-over o e = ap (over k p g) e
 
-pub held-planned : (t : Tree) (k : ℕ) (p : Plan) (g : Revision × Node) (n : Node) → find orderRev (g .0) t ≡ some n
-    → planned t k p g ≡ record {
-      crossed = p .crossed || differ sameRev (n .parent) (g .1 .parent);
-      other = p .other || differ agree (n .content) (g .1 .content);
-      revisions = p .revisions;
-      parents = p .parents + pick (lacksParent (g .1 .parent) (n .parent)) 1 0;
-      reach = pick (lacksParent (g .1 .parent) (n .parent)) (k + 2) (p .reach);
-    }
-unfolding planned isNew isNewParent isAddition otherParent otherContent
-held-planned t k p g n e =
-    ap (λ (o : Option Node). record {
-      crossed = p .crossed || maybe false (λ n. differ sameRev (n .parent) (g .1 .parent)) o;
-      other = p .other || maybe false (λ n. differ agree (n .content) (g .1 .content)) o;
-      revisions = p .revisions + pick (isNone o) 1 0;
-      parents = p .parents + pick (lacksParent (g .1 .parent) (parentIn o)) 1 0;
-      reach = pick (maybe true (λ n. lacksParent (g .1 .parent) (n .parent)) o) (k + 2) (p .reach);
-    }) e
-    ∙ (λ i. record {
-      crossed = p .crossed || differ sameRev (n .parent) (g .1 .parent);
-      other = p .other || differ agree (n .content) (g .1 .content);
-      revisions = add-zero (p .revisions) i;
-      parents = p .parents + pick (lacksParent (g .1 .parent) (n .parent)) 1 0;
-      reach = pick (lacksParent (g .1 .parent) (n .parent)) (k + 2) (p .reach);
-    })
+  new-planned : find orderRev (g .0) t ≡ none
+      → planned t k p g ≡ record { crossed = p .crossed; other = p .other; revisions = p .revisions + 1; parents = p .parents + pick (not (isNone (g .1 .parent))) 1 0; reach = k + 2 }
+  new-planned e =
+      planned-over none e
+      ∙ (λ i. record {
+        crossed = or-false (p .crossed) i;
+        other = or-false (p .other) i;
+        revisions = p .revisions + 1;
+        parents = p .parents + pick (lacks-none (g .1 .parent) i) 1 0;
+        reach = k + 2;
+      })
+
+  pub held-planned : (n : Node) → find orderRev (g .0) t ≡ some n
+      → planned t k p g ≡ record {
+        crossed = p .crossed || differ sameRev (n .parent) (g .1 .parent);
+        other = p .other || differ agree (n .content) (g .1 .content);
+        revisions = p .revisions;
+        parents = p .parents + pick (lacksParent (g .1 .parent) (n .parent)) 1 0;
+        reach = pick (lacksParent (g .1 .parent) (n .parent)) (k + 2) (p .reach);
+      }
+  held-planned n e = planned-over (some n) e ∙ (λ i. record {
+    crossed = over k p g (some n) .crossed;
+    other = over k p g (some n) .other;
+    revisions = add-zero (p .revisions) i;
+    parents = over k p g (some n) .parents;
+    reach = over k p g (some n) .reach;
+  })
 
 -- ---- which rows can still hold what is left
 
 gap-from : (k i : ℕ) (v : Revision) (t : Tree) → placeOf k v t ≡ Gap i → (m : ℕ) × (i ≡ k + m) × Below orderRev v (drop m t)
-unfolding placeOf
+unfolding place
 gap-from k i v [] e = let q : k ≡ i = cc in (0, omega arith, tt)
 gap-from k i v (x ∷ t) e = go (orderRev v (x .0)) refl e (λ (p : placeOf (suc k) v t ≡ Gap i). gap-from (suc k) i v t p)
   where
@@ -177,7 +170,7 @@ gap-from k i v (x ∷ t) e = go (orderRev v (x .0)) refl e (λ (p : placeOf (suc
     go Equal o p ih = let z : _≡_ {A = ℕ} 0 1 = cc in absurd (omega arith)
     go Greater o p ih = let h = ih p in (suc (h .0), (let q = h .1 in omega arith), h .2)
 
-pub gap-below : (i : ℕ) (v : Revision) (t : Tree) → placeOf 0 v t ≡ Gap i → Below orderRev v (drop i t)
+gap-below : (i : ℕ) (v : Revision) (t : Tree) → placeOf 0 v t ≡ Gap i → Below orderRev v (drop i t)
 gap-below i v t e =
     let h = gap-from 0 i v t e in
     let q : h .0 ≡ i = let z = h .1 in omega arith in
@@ -201,17 +194,11 @@ find-front v [] ys b = find-below revOrder v ys b
 find-front v (x ∷ xs) ys b = ap (byOrder (orderRev v (x .0)) none (some (x .1))) (find-front v xs ys b)
 
 -- what lies past the rows that matter changes no plan
-pub planned-front : (t : Tree) (top k : ℕ) (p : Plan) (g : Revision × Node) → Below orderRev (g .0) (drop top t) → planned (take top t) k p g ≡ planned t k p g
-unfolding planned isNew isNewParent isAddition otherParent otherContent
+planned-front : (t : Tree) (top k : ℕ) (p : Plan) (g : Revision × Node) → Below orderRev (g .0) (drop top t) → planned (take top t) k p g ≡ planned t k p g
 planned-front t top k p g b =
-    ap (λ (o : Option Node). record {
-      crossed = p .crossed || maybe false (λ n. differ sameRev (n .parent) (g .1 .parent)) o;
-      other = p .other || maybe false (λ n. differ agree (n .content) (g .1 .content)) o;
-      revisions = p .revisions + pick (isNone o) 1 0;
-      parents = p .parents + pick (lacksParent (g .1 .parent) (parentIn o)) 1 0;
-      reach = pick (maybe true (λ n. lacksParent (g .1 .parent) (n .parent)) o) (k + 2) (p .reach);
-    })
+    planned-over (take top t) k p g (find orderRev (g .0) t)
     (sym (find-front (g .0) (take top t) (drop top t) b) ∙ ap (find orderRev (g .0)) (take-append-drop top t))
+    ∙ sym (planned-over t k p g (find orderRev (g .0) t) refl)
 
 below-append : (v : Revision) (xs ys : Tree) → Below orderRev v xs → Below orderRev v ys → Below orderRev v (xs ++ ys)
 below-append v [] ys b c = c
@@ -248,11 +235,11 @@ passing-start t number path c n e = record {
   lower = λ _. rw (drop-of-length-le t {i = n} (omega arith)) tt;
 }
 
-one-most : (b : Bool) → pick b 1 0 ≤ 1
+pub one-most : (b : Bool) → pick b 1 0 ≤ 1
 one-most true = omega arith
 one-most false = omega arith
 
-pub passing-next : (t : Tree) (number : RevNumber) (path : List ℕ) (c : Content) (k top i : ℕ) (p q : Plan) → k < countOf path → countOf path ≤ number .0
+passing-next : (t : Tree) (number : RevNumber) (path : List ℕ) (c : Content) (k top i : ℕ) (p q : Plan) → k < countOf path → countOf path ≤ number .0
     → Passing t number path c k top p → q ≡ planned (take top t) k p (givenAt (number .0) path c k) → i ≤ top
     → ((u : Revision) → orderRev u (revAt (number .0) path k) ≡ Less → Below orderRev u (drop i (take top t)))
     → Passing t number path c (k + 1) i q
@@ -313,37 +300,34 @@ with-held t k p h g x y l m z e a b c d f =
 
 -- ---- where a row is
 
--- row i of the rows that were searched is the revision looked for
-pub row-found : (base n i : ℕ) (s : List ℕ) (v : Revision) (r : Row) → placeOf 0 v (treeAt base n s) ≡ At i → r ≡ rowAt (base + i * 48) s
-    → (r .rev ≡ v) × (find orderRev v (treeAt base n s) ≡ some (meaning r .1)) × (i < n) × (getD (treeAt base n s) i noRow .0 ≡ v)
-unfolding meaning
-row-found base n i s v r e q =
-    let p = place-at i v (treeAt base n s) e in
-    let h : i < n = subst (λ (x : ℕ). i < x) (length-tree base n s) (p .within) in
-    let m : meaning r ≡ getD (treeAt base n s) i noRow = ap meaning q ∙ (row-at-means (base + i * 48) s ∙ sym (tree-row base n i s h)) in
-    (ap (λ (x : Revision × Node). x .0) m ∙ p .is, p .found ∙ ap (λ (x : Revision × Node). some (x .1)) (sym m), h, p .is)
+module _ (b : Body) (i : ℕ) (s : List ℕ) (v : Revision) where
+  -- row i of the rows that were searched is the revision looked for
+  pub row-found : (r : Row) → placeOf 0 v (treeIn b s) ≡ At i → r ≡ rowAt (rowStart b i) s
+      → (r .rev ≡ v) × (find orderRev v (treeIn b s) ≡ some (meaning r .1)) × (i < b .rows) × (getD (treeIn b s) i noRow .0 ≡ v)
+  unfolding meaning
+  row-found r e q =
+      let p = place-at i v (treeIn b s) e in
+      let h : i < b .rows = subst (λ (x : ℕ). i < x) (length-tree (b .base) (b .rows) s) (p .within) in
+      let m : meaning r ≡ getD (treeIn b s) i noRow = ap meaning q ∙ (row-at-means (rowStart b i) s ∙ sym (tree-row (b .base) (b .rows) i s h)) in
+      (ap (λ (x : Revision × Node). x .0) m ∙ p .is, p .found ∙ ap (λ (x : Revision × Node). some (x .1)) (sym m), h, p .is)
 
-pub gap-within : (base n i : ℕ) (s : List ℕ) (v : Revision) → placeOf 0 v (treeAt base n s) ≡ Gap i → i ≤ n
-gap-within base n i s v e = subst (λ (x : ℕ). i ≤ x) (length-tree base n s) (place-gap i v (treeAt base n s) e .within)
+  pub row-within : placeOf 0 v (treeIn b s) ≡ At i → i < b .rows
+  row-within e = subst (λ (x : ℕ). i < x) (length-tree (b .base) (b .rows) s) (place-at i v (treeIn b s) e .within)
+
+  pub gap-within : placeOf 0 v (treeIn b s) ≡ Gap i → i ≤ b .rows
+  gap-within e = subst (λ (x : ℕ). i ≤ x) (length-tree (b .base) (b .rows) s) (place-gap i v (treeIn b s) e .within)
 
 -- ---- the loop of the pass
 
--- the rows up to the top can be searched too
-pub search-front : (base n top : ℕ) (s : List ℕ) → Searchable base n s → top ≤ n → Searchable base top s
-search-front base n top s h l = record {
-  within = (let w = h .within in omega arith);
-  ascending = subst (Ascending orderRev) (tree-take base top n s l) (ascending-take top (treeAt base n s) (h .ascending));
-}
-
-pub passing-step : (s : List ℕ) (base n : ℕ) (number : RevNumber) (path : List ℕ) (c : Content) (k top : ℕ) (p : Plan) (g : Revision × Node) (r : Pass)
+pub passing-step : (b : Body) {s : List ℕ} {number : RevNumber} {path : List ℕ} {c : Content} {k top : ℕ} {p : Plan} {g : Revision × Node} {r : Pass}
     → k < countOf path → countOf path ≤ number .0
-    → Passing (treeAt base n s) number path c k top p → g ≡ givenAt (number .0) path c k → Stepped s base top g p k r
-    → Passing (treeAt base n s) number path c (k + 1) (r .top) (r .plan)
+    → Passing (treeIn b s) number path c k top p → g ≡ givenAt (number .0) path c k → Stepped s (body (b .base) top) g p k r
+    → Passing (treeIn b s) number path c (k + 1) (r .top) (r .plan)
 unfolding givenAt
-passing-step s base n number path c k top p g r h d q e z =
-    let l : top ≤ n = let x = q .rows in let y = length-tree base n s in omega arith in
-    let t : take top (treeAt base n s) ≡ treeAt base top s = tree-take base top n s l in
-    passing-next (treeAt base n s) number path c k top (r .top) p (r .plan) h d q
+passing-step b {s} {number} {path} {c} {k} {top} {p} {g} {r} h d q e z =
+    let l : top ≤ b .rows = let x = q .rows in let y = length-tree (b .base) (b .rows) s in omega arith in
+    let t : take top (treeIn b s) ≡ treeAt (b .base) top s = tree-take (b .base) top (b .rows) s l in
+    passing-next (treeIn b s) number path c k top (r .top) p (r .plan) h d q
     (z .plan ∙ ap₂ (λ (u : Tree) (x : Revision × Node). planned u k p x) (sym t) e)
     (z .within)
     (λ u m. subst (λ (x : Tree). Below orderRev u (drop (r .top) x)) (sym t) (z .lower u (subst (λ (x : Revision × Node). orderRev u (x .0) ≡ Less) (sym e) m)))

@@ -1,18 +1,17 @@
 -- What a path gives, hash by hash: the k-th of what a write gives, and that its numbers fall. Assumes nothing.
 use mathlib.Core.Path.{_≡_, refl, sym, ap, ap₂, _∙_, subst}
 use mathlib.Core.Bool.{Bool, true, false}
-use mathlib.Core.List.{List, [], _∷_, _++_}
+use mathlib.Core.List.{List, [], _∷_}
 use mathlib.Core.Option.{Option, none, some}
-use Prim.Native.Nat.{ℕ, zero, suc, pred, _+_, _-_, _*_, _/_, _≤_, _<_}
-use native.Mathlib.Numerals.{add-one, sub-one}
+use Prim.Native.Nat.{ℕ, zero, suc, pred, _+_, _-_, _/_, _≤_, _<_}
+use native.Mathlib.Numerals.{sub-one}
 use native.Mathlib.Omega.{arith}
-use lib.Dec.{eqb, ltb}
-use lib.ListN.{length, getD, take, drop, length-drop, drop-of-length-le}
-use lib.Seq.{drop-cons, drop-drop}
+use lib.Dec.{ltb}
+use lib.ListN.{length, drop, drop-of-length-le}
+use lib.Seq.{drop-cons}
 use borrow.Author.Tests.{ltb-true, ltb-false, ne-eqb}
 use Rattle.rules.specs.declared.Content.{Content}
 use Rattle.rules.specs.declared.Revision.{Revision}
-use Rattle.rules.specs.Bytes.{part, pieces}
 use Rattle.rules.specs.Choice.{pick}
 use Rattle.rules.specs.Replica.{Hash, revision, Node}
 use Rattle.rules.specs.Room.{hashSize}
@@ -22,7 +21,7 @@ use Rattle.writes.specs.Path.{countOf, hashAt, revAt, parentAt, contentA
 
 -- ---- along a path
 
-pub length-along : (n : ℕ) (hs : List Hash) (c : Option Content) → length (along n hs c) ≡ length hs
+length-along : (n : ℕ) (hs : List Hash) (c : Option Content) → length (along n hs c) ≡ length hs
 unfolding along
 length-along n [] c = refl
 length-along n (h ∷ hs) c = ap suc (length-along (pred n) hs none)

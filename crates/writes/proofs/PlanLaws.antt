@@ -1,25 +1,20 @@
 -- What a plan says: its tests and counts are those of the definitions, and past its reach nothing is altered. Assumes nothing.
-use mathlib.Core.Path.{_≡_, refl, sym, ap, ap₂, _∙_, subst}
+use mathlib.Core.Path.{_≡_, refl, sym, ap, ap₂, _∙_}
 use mathlib.Core.Bool.{Bool, true, false, not, _||_}
-use mathlib.Core.List.{List, [], _∷_, _++_}
+use mathlib.Core.List.{List, [], _∷_}
 use mathlib.Core.Logic.{_⊎_, inl, inr, ⊎-elim}
-use mathlib.Core.Option.{Option, none, some}
-use Prim.Native.Nat.{ℕ, zero, suc, pred, _+_, _-_, _≤_, _<_}
+use Prim.Native.Nat.{ℕ, suc, _+_, _-_}
 use native.Mathlib.Nat.{zero-add, add-assoc}
-use native.Mathlib.Numerals.{sub-one}
 use native.Mathlib.Omega.{arith}
 use lib.Dec.{eqb}
-use lib.ListN.{length, take, drop}
+use lib.ListN.{drop}
 use borrow.Author.Tests.{eq-eqb, ne-eqb}
 use Rattle.rules.specs.declared.Revision.{Revision}
-use Rattle.rules.specs.Choice.{pick, any, maybe}
-use Rattle.rules.specs.Map.{find}
-use Rattle.rules.specs.Order.{orderRev}
-use Rattle.rules.specs.Read.{parentIn}
+use Rattle.rules.specs.Choice.{pick, any, howMany}
 use Rattle.rules.specs.Replica.{Node, Tree}
-use Rattle.rules.specs.Write.{isNone, lacksParent, isNew, isAddition, countNew, otherParent, otherContent}
+use Rattle.rules.specs.Write.{isNew, isAddition, countNew, otherParent, otherContent, isNewParent, countParents}
 use Rattle.writes.specs.declared.plan.Plan.{Plan}
-use Rattle.writes.specs.Plan.{isNewParent, countParents, noPlan, planned, planFrom, planOf}
+use Rattle.writes.specs.Plan.{noPlan, planned, planFrom, planOf}
 
 -- ---- tests and counts
 
@@ -27,7 +22,7 @@ or-assoc : (a b c : Bool) → ((a || b) || c) ≡ (a || (b || c))
 or-assoc true b c = refl
 or-assoc false b c = refl
 
-or-false : (a : Bool) → (a || false) ≡ a
+pub or-false : (a : Bool) → (a || false) ≡ a
 or-false true = refl
 or-false false = refl
 
@@ -42,19 +37,19 @@ other-from t k p [] = sym (or-false (p .other))
 other-from t k p (g ∷ gs) = other-from t (k + 1) (planned t k p g) gs ∙ or-assoc (p .other) (otherContent t g) (any (otherContent t) gs)
 
 revisions-from : (t : Tree) (k : ℕ) (p : Plan) (gs : List (Revision × Node)) → planFrom t k p gs .revisions ≡ p .revisions + countNew t gs
-unfolding planFrom planned countNew
+unfolding planFrom planned countNew howMany
 revisions-from t k p [] = omega arith
 revisions-from t k p (g ∷ gs) = revisions-from t (k + 1) (planned t k p g) gs ∙ add-assoc (p .revisions) (pick (isNew t g) 1 0) (countNew t gs)
 
 parents-from : (t : Tree) (k : ℕ) (p : Plan) (gs : List (Revision × Node)) → planFrom t k p gs .parents ≡ p .parents + countParents t gs
-unfolding planFrom planned countParents
+unfolding planFrom planned countParents howMany
 parents-from t k p [] = omega arith
 parents-from t k p (g ∷ gs) = parents-from t (k + 1) (planned t k p g) gs ∙ add-assoc (p .parents) (pick (isNewParent t g) 1 0) (countParents t gs)
 
 -- ---- the reach
 
 -- the last addition, if there is one, is the j-th from here
-pub record Last (t : Tree) (k : ℕ) (gs : List (Revision × Node)) (reach : ℕ) : Type 0 where
+record Last (t : Tree) (k : ℕ) (gs : List (Revision × Node)) (reach : ℕ) : Type 0 where
   pub at : ℕ
   pub is : reach ≡ k + at + 2
   pub adds : any (isAddition t) gs ≡ true
@@ -122,12 +117,3 @@ plan-rest t gs =
     (λ l. let e : planOf t gs .reach - 1 ≡ suc (l .at) = let q = l .is in omega arith in
     ap (λ (k : ℕ). any (isAddition t) (drop k gs)) e ∙ l .rest)
     (reached t 0 noPlan gs)
-
--- an addition is a new revision or a new parent
-pub addition : (t : Tree) (g : Revision × Node) → isAddition t g ≡ (isNew t g || isNewParent t g)
-unfolding isAddition isNew isNewParent
-addition t g = go (find orderRev (g .0) t)
-  where
-    go : (o : Option Node) → maybe true (λ n. lacksParent (g .1 .parent) (n .parent)) o ≡ (isNone o || lacksParent (g .1 .parent) (parentIn o))
-    go none = refl
-    go (some n) = refl

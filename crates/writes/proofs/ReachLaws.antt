@@ -1,20 +1,21 @@
 -- Past the oldest addition and its parent, a path alters nothing. Assumes nothing.
 use mathlib.Core.Path.{_≡_, refl, sym, ap, ap₂, _∙_, subst}
-use mathlib.Core.Bool.{Bool, true, false, not, _||_}
-use mathlib.Core.List.{List, [], _∷_, _++_}
+use mathlib.Core.Bool.{Bool, true, false, not}
+use mathlib.Core.List.{List, [], _∷_}
 use mathlib.Core.Option.{Option, none, some}
-use Prim.Native.Nat.{ℕ, zero, suc, pred, _+_, _-_, _≤_, _<_}
+use Prim.Native.Nat.{ℕ, zero, suc, pred, _-_, _≤_}
 use native.Mathlib.Omega.{arith}
-use lib.ListN.{length, take, drop, take-append-drop}
+use lib.ListN.{take, drop, take-append-drop}
 use Rattle.rules.specs.declared.Content.{Content}
 use Rattle.rules.specs.declared.Order.{Order}
 use Rattle.rules.specs.declared.Order.the-variants.{Less, Equal, Greater}
 use Rattle.rules.specs.declared.Revision.{Revision}
-use Rattle.rules.specs.Choice.{pick, any, maybe, orElse}
+use Rattle.rules.specs.Choice.{any, maybe, orElse}
 use Rattle.rules.specs.Map.{Map, find, alter}
 use Rattle.rules.specs.Order.{orderRev, isEqual, sameRev}
 use Rattle.rules.specs.Replica.{Hash, revision, Node, Tree, HasParent, HasContent, IsTree}
 use Rattle.rules.specs.Write.{Write, hashes, along, gives, newestOf, isNone, lacksParent, isAddition, differ, otherParent, keeps, learn}
+use Rattle.rules.proofs.ChoiceLaws.{or-left, or-right}
 use Rattle.rules.proofs.OrderLaws.{TotalOrder, revOrder}
 use Rattle.rules.proofs.MapLaws.{find-lt, find-eq, find-gt, none≢some, some-inj}
 use Rattle.writes.specs.Path.{addLast}
@@ -24,7 +25,7 @@ use Rattle.writes.proofs.AddLaws.{addLast-append}
 -- ---- altering to what is there
 
 module _ {K A : Type 0} (O : TotalOrder K) where
-  pub alter-still : (k : K) (f : Option A → A) (xs : Map K A) (n : A) → find (O .cmp) k xs ≡ some n → f (some n) ≡ n → alter (O .cmp) k f xs ≡ xs
+  alter-still : (k : K) (f : Option A → A) (xs : Map K A) (n : A) → find (O .cmp) k xs ≡ some n → f (some n) ≡ n → alter (O .cmp) k f xs ≡ xs
   unfolding alter find
   alter-still k f [] n e h = absurd (none≢some e)
   alter-still k f (x ∷ xs) n e h = go (O .cmp k (x .0)) refl (λ (d : find (O .cmp) k xs ≡ some n). alter-still k f xs n d h)
@@ -40,15 +41,7 @@ module _ {K A : Type 0} (O : TotalOrder K) where
 
 -- ---- tests that fail
 
-pub or-left : (a b : Bool) → (a || b) ≡ false → a ≡ false
-or-left true b e = e
-or-left false b e = refl
-
-pub or-right : (a b : Bool) → (a || b) ≡ false → b ≡ false
-or-right true b e = let z : _≡_ {A = ℕ} 0 1 = cc in absurd (omega arith)
-or-right false b e = e
-
-pub any-drop : {A : Type 0} (p : A → Bool) (xs : List A) (k : ℕ) → any p xs ≡ false → any p (drop k xs) ≡ false
+any-drop : {A : Type 0} (p : A → Bool) (xs : List A) (k : ℕ) → any p xs ≡ false → any p (drop k xs) ≡ false
 unfolding any
 any-drop p xs zero e = e
 any-drop p [] (suc k) e = e

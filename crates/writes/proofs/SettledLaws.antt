@@ -1,5 +1,5 @@
 -- A row that the path adds nothing to: how its bytes show it, and that the plan stays as it is. Assumes nothing.
-use mathlib.Core.Path.{_≡_, refl, sym, ap, ap₂, _∙_, subst}
+use mathlib.Core.Path.{_≡_, refl, sym, ap, _∙_}
 use mathlib.Core.Bool.{Bool, true, false, not, _&&_, _||_, true≢false}
 use mathlib.Core.List.{List}
 use mathlib.Core.Option.{Option, none, some}
@@ -7,9 +7,8 @@ use Prim.Native.Nat.{ℕ, pred, _+_, _-_, _*_, _≤_, _<_}
 use native.Mathlib.Nat.{add-zero}
 use native.Mathlib.Numerals.{sub-one}
 use native.Mathlib.Omega.{arith}
-use lib.Dec.{eqb, ltb}
-use lib.ListN.{length, getD, drop}
-use lib.Seq.{getD-take, getD-drop}
+use lib.Dec.{eqb}
+use lib.ListN.{length, getD}
 use borrow.Author.Tests.{eq-eqb, ne-eqb, eqb-false, not-true, lt-ltb, le-ltb}
 use Rattle.rules.specs.declared.Content.{Content}
 use Rattle.rules.specs.declared.Order.{Order}
@@ -17,27 +16,28 @@ use Rattle.rules.specs.declared.Order.the-variants.{Less, Equal, Greater}
 use Rattle.rules.specs.declared.Revision.{Revision}
 use Rattle.rules.specs.Bytes.{value, part, Bytes}
 use Rattle.rules.specs.Choice.{pick, maybe}
-use Rattle.rules.specs.Image.{rowSize, rowOf, nodeIn, parentOfRow}
+use Rattle.rules.specs.Layout.{Row, rowSize, rowOf, hashIn, parentHashIn}
 use Rattle.rules.specs.Map.{find}
 use Rattle.rules.specs.Order.{orderN, andThen, isEqual, orderBytes, orderRev, sameRev}
 use Rattle.rules.specs.Replica.{revision, Node, Tree}
+use Rattle.rules.specs.Room.{hashSize}
 use Rattle.rules.specs.Write.{lacksParent, differ, agree}
 use Rattle.rules.proofs.ByteLaws.{length-part, part-part}
-use Rattle.rules.proofs.OrderLaws.{orderN-same, orderN-self, revOrder}
+use Rattle.rules.proofs.OrderLaws.{orderN-same, orderN-self, revOrder, sameRev-true}
 use Rattle.octets.proofs.ByteOrderLaws.{order-halves, order-value}
-use Rattle.tree.specs.Rows.{nodeAt}
+use Rattle.tree.specs.Rows.{meaning, rowFrom, nodeHeld, nodeAt}
 use Rattle.tree.specs.Rows as rows
-use Rattle.tree.specs.Table.{treeAt, placeOf, Searchable}
+use Rattle.tree.specs.declared.table.Body.{Body}
+use Rattle.tree.specs.Table.{treeIn, rowStart, Searchable}
 use Rattle.tree.proofs.PlaceLaws.{place-at}
-use Rattle.tree.proofs.RowLaws.{rev-level, rev-number, rev-hash}
+use Rattle.tree.proofs.RowLaws.{rev-level, rev-hash}
 use Rattle.tree.proofs.SearchLaws.{at-last}
-use Rattle.tree.proofs.TableLaws.{noRow, length-tree, tree-row}
-use Rattle.union.proofs.Keeps.{sameRev-true}
-use Rattle.writes.specs.declared.plan.Pass.{Pass}
+use Rattle.tree.proofs.TableLaws.{noRow, tree-row}
 use Rattle.writes.specs.declared.plan.Plan.{Plan}
 use Rattle.writes.specs.Path.{countOf, hashAt, revAt, parentAt, givenAt}
 use Rattle.writes.specs.Plan.{parentHeld, holds, settled, planned, Stepped}
 use Rattle.writes.proofs.PassLaws.{held-planned, lower-at}
+use Rattle.writes.proofs.PlanLaws.{or-false}
 
 and-left : (a b : Bool) → (a && b) ≡ true → a ≡ true
 and-left true b e = refl
@@ -49,11 +49,11 @@ and-right false b e = absurd (true≢false (sym e))
 
 -- ---- sixteen bytes as two numbers
 
-module _ (a b : List ℕ) (p q : ℕ) (h : p + 16 ≤ length a) (i : q + 16 ≤ length b) (m : Bytes (part p 8 a)) (n : Bytes (part q 8 b)) where
-  halves : orderBytes (part p 16 a) (part q 16 b) ≡ andThen (orderN (value (part p 8 a)) (value (part q 8 b))) (orderBytes (part (p + 8) 8 a) (part (q + 8) 8 b))
+module _ (a b : List ℕ) (p q : ℕ) (h : p + hashSize ≤ length a) (i : q + hashSize ≤ length b) (m : Bytes (part p 8 a)) (n : Bytes (part q 8 b)) where
+  halves : orderBytes (part p hashSize a) (part q hashSize b) ≡ andThen (orderN (value (part p 8 a)) (value (part q 8 b))) (orderBytes (part (p + 8) 8 a) (part (q + 8) 8 b))
   halves = order-halves a b p q 8 h i m n
 
-  pub first-differ : (value (part p 8 a) ≡ value (part q 8 b) → ⊥) → isEqual (orderBytes (part p 16 a) (part q 16 b)) ≡ false
+  pub first-differ : (value (part p 8 a) ≡ value (part q 8 b) → ⊥) → isEqual (orderBytes (part p hashSize a) (part q hashSize b)) ≡ false
   first-differ d = ap isEqual halves ∙ go (orderN (value (part p 8 a)) (value (part q 8 b))) refl
     where
       go : (o : Order) → orderN (value (part p 8 a)) (value (part q 8 b)) ≡ o → isEqual (andThen o (orderBytes (part (p + 8) 8 a) (part (q + 8) 8 b))) ≡ false
@@ -73,7 +73,7 @@ module _ (a b : List ℕ) (p q : ℕ) (h : p + 16 ≤ length a) (i : q + 16 ≤ 
       go Greater e = sym (other Greater e refl)
 
   pub second-decides : value (part p 8 a) ≡ value (part q 8 b) → Bytes (part (p + 8) 8 a) → Bytes (part (q + 8) 8 b)
-      → isEqual (orderBytes (part p 16 a) (part q 16 b)) ≡ eqb (value (part (p + 8) 8 a)) (value (part (q + 8) 8 b))
+      → isEqual (orderBytes (part p hashSize a) (part q hashSize b)) ≡ eqb (value (part (p + 8) 8 a)) (value (part (q + 8) 8 b))
   second-decides e u v =
       let la = length-part (p + 8) 8 a (omega arith) in
       let lb = length-part (q + 8) 8 b (omega arith) in
@@ -93,17 +93,20 @@ other-rev a b n = go (orderRev a b) refl
     go Equal e = absurd (n (revOrder .same a b e))
     go Greater e = refl
 
-flag-at : (at : ℕ) (s : List ℕ) → getD (part at rowSize s) 21 0 ≡ getD s (at + 21) 0
-unfolding part
-flag-at at s = getD-take rowSize (drop at s) 21 0 (omega arith) ∙ getD-drop at s 21 0
+module _ (at : ℕ) (s : List ℕ) where
+  -- the fields of the row at a place
+  abbrev pub fields : Row
+  fields = rowOf (part at rowSize s)
 
--- the parent of the row at a place
-parent-there : (at : ℕ) (s : List ℕ)
-    → nodeAt at s .1 .parent ≡ pick (eqb (getD s (at + 21) 0) 0) none (some (revision (pred (rows.revAt at s .number .0)) (part (at + 24) 16 s)))
-unfolding nodeAt rows.revAt nodeIn parentOfRow rowOf
-parent-there at s =
-    ap₂ (λ (f : ℕ) (h : List ℕ). pick (eqb f 0) none (some (revision (pred (rows.revAt at s .number .0)) h)))
-    (flag-at at s) (part-part 24 16 at rowSize s (omega arith))
+  number-there : nodeAt at s .0 .number .0 ≡ fields .rev .number .0
+  unfolding nodeAt nodeHeld meaning rowFrom
+  number-there = refl
+
+  parent-there : nodeAt at s .1 .parent ≡ pick (not (eqb (fields .flag) 0)) (some (revision (pred (fields .rev .number .0)) (part (at + parentHashIn) hashSize s))) none
+  unfolding nodeAt nodeHeld meaning rowFrom rowOf
+  parent-there =
+      ap (λ (h : List ℕ). pick (not (eqb (fields .flag) 0)) (some (revision (pred (fields .rev .number .0)) h)) none)
+      (part-part parentHashIn hashSize at rowSize s (omega arith))
 
 module _ (at : ℕ) (s : List ℕ) (number : ℕ) (path : List ℕ) (k : ℕ) where
   abbrev row : Revision × Node
@@ -123,54 +126,51 @@ module _ (at : ℕ) (s : List ℕ) (number : ℕ) (path : List ℕ) (k : ℕ) wh
   unfolding holds
   is-rev e = ap (λ (b : Bool). b && parentHeld o (row .1 .parent)) e
 
-  pub other-number : (value (part at 4 s) ≡ number - k → ⊥) → holds row v o ≡ false
-  unfolding rows.revAt revAt
-  other-number n = not-rev (other-rev (row .0) v (λ e. n (sym (rev-number at s) ∙ ap (λ (x : Revision). x .number .0) e)))
+  pub other-number : (fields at s .rev .number .0 ≡ number - k → ⊥) → holds row v o ≡ false
+  unfolding revAt
+  other-number n = not-rev (other-rev (row .0) v (λ e. n (sym (number-there at s) ∙ ap (λ (x : Revision). x .number .0) e)))
 
-  module _ (same : value (part at 4 s) ≡ number - k) where
-    numbers : rows.revAt at s .number .0 ≡ number - k
-    numbers = rev-number at s ∙ same
+  -- whether the hash that stands at a place of the row is the j-th of the path
+  abbrev pub sameHash : ℕ → ℕ → Bool
+  sameHash in′ j = isEqual (orderBytes (part (at + in′) hashSize s) (part (j * hashSize) hashSize path))
 
-    by-hash : sameRev (row .0) v ≡ isEqual (orderBytes (part (at + 4) 16 s) (part (k * 16) 16 path))
+  module _ (same : fields at s .rev .number .0 ≡ number - k) where
+    by-hash : sameRev (row .0) v ≡ sameHash hashIn k
     unfolding sameRev rows.revAt revAt hashAt
-    by-hash = ap isEqual (rev-level (rows.revAt at s) v numbers ∙ ap (λ (h : List ℕ). orderBytes h (part (k * 16) 16 path)) (rev-hash at s))
+    by-hash =
+        ap isEqual (rev-level (rows.revAt at s) v (number-there at s ∙ same)
+        ∙ ap (λ (h : List ℕ). orderBytes h (part (k * hashSize) hashSize path)) (rev-hash at s))
 
-    pub other-hash : isEqual (orderBytes (part (at + 4) 16 s) (part (k * 16) 16 path)) ≡ false → holds row v o ≡ false
+    pub other-hash : sameHash hashIn k ≡ false → holds row v o ≡ false
     other-hash e = not-rev (by-hash ∙ e)
 
-    module _ (hash : isEqual (orderBytes (part (at + 4) 16 s) (part (k * 16) 16 path)) ≡ true) where
+    module _ (hash : sameHash hashIn k ≡ true) where
       pub none-given : countOf path ≤ k + 1 → holds row v o ≡ true
       unfolding parentAt
       none-given h =
           is-rev (by-hash ∙ hash)
           ∙ ap (λ (b : Bool). parentHeld (pick b (some (revAt number path (k + 1))) none) (row .1 .parent)) (le-ltb (k + 1) (countOf path) h)
 
-      one-given : k + 1 < countOf path → holds row v o ≡ maybe false (λ q. sameRev q (revAt number path (k + 1))) (row .1 .parent)
-      unfolding parentAt
-      one-given h =
-          is-rev (by-hash ∙ hash)
-          ∙ ap (λ (b : Bool). parentHeld (pick b (some (revAt number path (k + 1))) none) (row .1 .parent)) (lt-ltb (k + 1) (countOf path) h)
+      module _ (h : k + 1 < countOf path) where
+        abbrev held : Revision
+        held = revision (pred (fields at s .rev .number .0)) (part (at + parentHashIn) hashSize s)
 
-      abbrev held : Revision
-      held = revision (pred (rows.revAt at s .number .0)) (part (at + 24) 16 s)
+        by-flag : (b : Bool) → eqb (fields at s .flag) 0 ≡ b
+            → holds row v o ≡ maybe false (λ q. sameRev q (revAt number path (k + 1))) (pick (not b) (some held) none)
+        unfolding parentAt
+        by-flag b e =
+            is-rev (by-hash ∙ hash)
+            ∙ (ap (λ (x : Bool). parentHeld (pick x (some (revAt number path (k + 1))) none) (row .1 .parent)) (lt-ltb (k + 1) (countOf path) h)
+            ∙ ap (maybe false (λ q. sameRev q (revAt number path (k + 1)))) (parent-there at s ∙ ap (λ (x : Bool). pick (not x) (some held) none) e))
 
-      by-flag : (b : Bool) → eqb (getD s (at + 21) 0) 0 ≡ b → k + 1 < countOf path
-          → holds row v o ≡ maybe false (λ q. sameRev q (revAt number path (k + 1))) (pick b none (some held))
-      by-flag b e h =
-          one-given h
-          ∙ ap (maybe false (λ q. sameRev q (revAt number path (k + 1)))) (parent-there at s ∙ ap (λ (x : Bool). pick x none (some held)) e)
+        pub none-held : fields at s .flag ≡ 0 → holds row v o ≡ false
+        none-held e = by-flag true (eq-eqb (fields at s .flag) 0 e)
 
-      pub none-held : k + 1 < countOf path → getD s (at + 21) 0 ≡ 0 → holds row v o ≡ false
-      none-held h e = by-flag true (eq-eqb (getD s (at + 21) 0) 0 e) h
-
-      pub by-parent : k + 1 < countOf path → (getD s (at + 21) 0 ≡ 0 → ⊥)
-          → holds row v o ≡ isEqual (orderBytes (part (at + 24) 16 s) (part (k * 16 + 16) 16 path))
-      unfolding sameRev revAt hashAt
-      by-parent h n =
-          let m : pred (rows.revAt at s .number .0) ≡ number - (k + 1) = (let z = sub-one (rows.revAt at s .number .0) in let y = numbers in omega arith) in
-          let e : (k + 1) * 16 ≡ k * 16 + 16 = omega arith in
-          by-flag false (ne-eqb (getD s (at + 21) 0) 0 n) h
-          ∙ ap isEqual (rev-level held (revAt number path (k + 1)) m ∙ ap (λ (j : ℕ). orderBytes (part (at + 24) 16 s) (part j 16 path)) e)
+        pub by-parent : (fields at s .flag ≡ 0 → ⊥) → holds row v o ≡ sameHash parentHashIn (k + 1)
+        unfolding sameRev revAt hashAt
+        by-parent n =
+            let m : pred (fields at s .rev .number .0) ≡ number - (k + 1) = (let z = sub-one (fields at s .rev .number .0) in omega arith) in
+            by-flag false (ne-eqb (fields at s .flag) 0 n) ∙ ap isEqual (rev-level held (revAt number path (k + 1)) m)
 
 -- ---- the plan stays
 
@@ -183,10 +183,6 @@ parent-stays (some p) (some q) e = (ap not e, refl)
 no-content : (h : Option Content) → differ agree h none ≡ false
 no-content none = refl
 no-content (some c) = refl
-
-or-none : (a : Bool) → (a || false) ≡ a
-or-none true = refl
-or-none false = refl
 
 plan-stays : (t : Tree) (k : ℕ) (p : Plan) (g : Revision × Node) (n : Node) → find orderRev (g .0) t ≡ some n
     → parentHeld (g .1 .parent) (n .parent) ≡ true → g .1 .content ≡ none → p ≡ planned t k p g
@@ -202,46 +198,46 @@ plan-stays t k p g n f e c =
       reach = pick (s .1 i) (k + 2) (p .reach);
     })
     ∙ (λ i. record {
-      crossed = or-none (p .crossed) i;
-      other = or-none (p .other) i;
+      crossed = or-false (p .crossed) i;
+      other = or-false (p .other) i;
       revisions = p .revisions;
       parents = add-zero (p .parents) i;
       reach = p .reach;
     })))
 
-module _ (base top : ℕ) (s : List ℕ) (number : ℕ) (path : List ℕ) (k : ℕ) (yes : settled base top s number path k ≡ true) where
+module _ (b : Body) (s : List ℕ) (number : ℕ) (path : List ℕ) (k : ℕ) (yes : settled b s number path k ≡ true) where
   abbrev last : Revision × Node
-  last = nodeAt (base + (top - 1) * rowSize) s
+  last = nodeAt (rowStart b (b .rows - 1)) s
 
   abbrev this : Bool
   this = holds last (revAt number path k) (parentAt number path k)
 
   later : eqb k 0 ≡ false
   unfolding settled
-  later = not-true (eqb k 0) (and-left (not (eqb k 0)) (not (eqb top 0) && this) yes)
+  later = not-true (eqb k 0) (and-left (not (eqb k 0)) (not (eqb (b .rows) 0) && this) yes)
 
-  rest : (not (eqb top 0) && this) ≡ true
+  rest : (not (eqb (b .rows) 0) && this) ≡ true
   unfolding settled
-  rest = and-right (not (eqb k 0)) (not (eqb top 0) && this) yes
+  rest = and-right (not (eqb k 0)) (not (eqb (b .rows) 0) && this) yes
 
-  pub some-row : 0 < top
-  some-row = let n = eqb-false top 0 (not-true (eqb top 0) (and-left (not (eqb top 0)) this rest)) in omega arith
+  pub some-row : 0 < b .rows
+  some-row = let n = eqb-false (b .rows) 0 (not-true (eqb (b .rows) 0) (and-left (not (eqb (b .rows) 0)) this rest)) in omega arith
 
   both : (sameRev (last .0) (revAt number path k) && parentHeld (parentAt number path k) (last .1 .parent)) ≡ true
   unfolding holds
-  both = and-right (not (eqb top 0)) this rest
+  both = and-right (not (eqb (b .rows) 0)) this rest
 
-  pub settled-step : (c : Content) (p : Plan) → Searchable base top s → Stepped s base top (givenAt number path c k) p k (record { plan = p; top = top - 1 })
+  pub settled-step : (c : Content) (p : Plan) → Searchable b s → Stepped s b (givenAt number path c k) p k (record { plan = p; top = b .rows - 1 })
   unfolding givenAt rows.revAt
   settled-step c p able =
       let v : Revision = revAt number path k in
-      let t : Tree = treeAt base top s in
-      let i : ℕ = top - 1 in
+      let t : Tree = treeIn b s in
+      let i : ℕ = b .rows - 1 in
       let z = some-row in
       let e : last .0 ≡ v = sameRev-true (last .0) v (and-left (sameRev (last .0) v) (parentHeld (parentAt number path k) (last .1 .parent)) both) in
       let o : orderRev v (last .0) ≡ Equal = rw e (revOrder .self v) in
-      let h = place-at i v t (at-last base top v s able z o) in
-      let r : getD t i noRow ≡ last = tree-row base top i s (omega arith) in
+      let h = place-at i v t (at-last b v s able z o) in
+      let r : getD t i noRow ≡ last = tree-row (b .base) (b .rows) i s (omega arith) in
       let f : find orderRev v t ≡ some (last .1) = h .found ∙ ap (λ (x : Revision × Node). some (x .1)) r in
       record {
         plan = plan-stays t k p (givenAt number path c k) (last .1) f (and-right (sameRev (last .0) v) (parentHeld (parentAt number path k) (last .1 .parent)) both) (ap (λ (b : Bool). pick b (some c) none) later);

@@ -1,11 +1,11 @@
 -- The changes of a write one after the other: documents by index, and how many revisions are held. Assumes nothing.
-use mathlib.Core.Path.{_≡_, refl, sym, ap, ap₂, _∙_}
-use mathlib.Core.List.{List, [], _∷_, _++_}
-use mathlib.Core.Option.{Option, none, some}
+use mathlib.Core.Path.{_≡_, refl, sym, ap, _∙_}
+use mathlib.Core.List.{List, [], _∷_}
+use mathlib.Core.Option.{Option, some}
 use Prim.Native.Nat.{ℕ, zero, suc, _+_, _≤_, _<_}
 use native.Mathlib.Nat.{not-suc-le-zero, le-of-suc-le-suc}
 use native.Mathlib.Omega.{arith}
-use lib.ListN.{length, getD, take, drop}
+use lib.ListN.{length, getD}
 use Rattle.rules.specs.declared.Seq.{Seq}
 use Rattle.rules.specs.Map.{Map, alter}
 use Rattle.rules.specs.Order.{orderBytes}
@@ -32,7 +32,7 @@ module _ {A : Type 0} where
   modify-twice (suc d) f g (x ∷ xs) = ap (λ (l : List A). x ∷ l) (modify-twice d f g xs)
 
   -- only what stands there matters
-  pub modify-here : (d : ℕ) (f g : A → A) (xs : List A) (x : A) → f (getD xs d x) ≡ g (getD xs d x) → modify d f xs ≡ modify d g xs
+  modify-here : (d : ℕ) (f g : A → A) (xs : List A) (x : A) → f (getD xs d x) ≡ g (getD xs d x) → modify d f xs ≡ modify d g xs
   unfolding modify
   modify-here d f g [] x e = refl
   modify-here zero f g (y ∷ xs) x e = ap (λ (z : A). z ∷ xs) e
@@ -44,7 +44,7 @@ module _ {A : Type 0} where
   at-modify zero f (y ∷ xs) x h = refl
   at-modify (suc d) f (y ∷ xs) x h = at-modify d f xs x (le-of-suc-le-suc h)
 
-  pub modify-insert : (d : ℕ) (f : A → A) (x : A) (xs : List A) → d ≤ length xs → modify d f (insertAt d x xs) ≡ insertAt d (f x) xs
+  modify-insert : (d : ℕ) (f : A → A) (x : A) (xs : List A) → d ≤ length xs → modify d f (insertAt d x xs) ≡ insertAt d (f x) xs
   unfolding modify insertAt
   modify-insert zero f x xs h = refl
   modify-insert (suc d) f x [] h = absurd (not-suc-le-zero h)

@@ -1,55 +1,56 @@
 -- A write of a good form, from its plan and verdict: what it answers and what is held after it. Assumes nothing.
 use mathlib.Core.Path.{_≡_, refl, sym, ap, ap₂, _∙_, subst}
-use mathlib.Core.Bool.{Bool, true, false, not}
+use mathlib.Core.Bool.{Bool, true, false}
 use mathlib.Core.List.{List, [], _∷_}
 use mathlib.Core.Option.{Option, none, some}
-use Prim.Native.Nat.{ℕ, zero, suc, min, _+_, _-_, _*_, _/_, _≤_, _<_}
+use Prim.Native.Nat.{ℕ, suc, min, _-_, _/_, _≤_, _<_}
 use native.Mathlib.Omega.{arith}
-use lib.Dec.{eqb, leb}
-use lib.ListN.{length, getD, take, drop}
+use lib.Dec.{leb}
+use lib.ListN.{length, getD, take}
 use lib.Seq.{take-all}
 use borrow.Author.Tests.{eq-eqb, ne-eqb, leb-true, leb-false}
-use Rattle.rules.specs.declared.Content.{Content}
 use Rattle.rules.specs.declared.Outcome.the-variants.{Changed, Unchanged}
 use Rattle.rules.specs.declared.Refusal.{Refusal}
 use Rattle.rules.specs.declared.Revision.{Revision}
-use Rattle.rules.specs.declared.RevNumber.{RevNumber}
 use Rattle.rules.specs.declared.Seq.{Seq}
 use Rattle.rules.specs.declared.Written.{Written}
 use Rattle.rules.specs.declared.Written.the-variants as written
-use Rattle.rules.specs.Bytes.{pieces, Bytes}
-use Rattle.rules.specs.Choice.{pick, firstThat, any}
-use Rattle.rules.specs.Map.{Map, find, Ascending}
+use Rattle.rules.specs.Bytes.{Bytes}
+use Rattle.rules.specs.Choice.{firstThat, howMany}
+use Rattle.rules.specs.Map.{Map, Ascending}
 use Rattle.rules.specs.Order.{orderRev}
 use Rattle.rules.specs.Replica.{Id, Node, Tree, Document, Replica, documentOf, treeOf, revisionsHeld, IsTree, IsReplica}
-use Rattle.rules.specs.Room.{hashesMost, last}
+use Rattle.rules.specs.Replica as rules
+use Rattle.rules.specs.Room.{hashesMost, hashSize, seqMost}
 use Rattle.rules.specs.Union.{IsWrite}
-use Rattle.rules.specs.Write.{Write, gives, addAll, next, added, isNone, isNew, isAddition, countNew, otherParent, formRefusals, write}
-use Rattle.tree.specs.declared.table.Found.the-variants.{At}
-use Rattle.tree.specs.Table.{treeAt, insertAt, Searchable}
-use Rattle.store.specs.declared.read.Body.{Body}
+use Rattle.rules.specs.Write.{Write, gives, addAll, next, added, isNone, isNew, countNew, formRefusals, write}
+use Rattle.tree.specs.declared.table.Found.{Found}
+use Rattle.tree.specs.declared.table.Found.the-variants.{At, Gap}
+use Rattle.tree.specs.Table.{body, treeIn, insertAt}
+use Rattle.tree.specs.declared.table.Body.{Body}
 use Rattle.store.specs.Storage.{stored, replicaOf, Laid, IsStored}
-use Rattle.store.specs.Documents.{noDocument, documentsOf, documentAt, placeOfId, HasDocument, IsBody}
+use Rattle.store.specs.Documents.{noDocument, documentsOf, documentAt, placeOfId, bodyAt, HasDocument, Looked, IsBody, Shows}
 use Rattle.store.specs.Change.{blank, withDocument, withSeq, withTree, Holds, CanAddDocument}
 use Rattle.store.proofs.FitLaws.{stored-laid}
 use Rattle.store.proofs.PlaceLaws.{IsAt, IsGap, id-found, id-gap}
 use Rattle.store.proofs.TableLaws.{length-insert}
-use Rattle.store.proofs.BodyLaws.{body-shows}
+use Rattle.store.proofs.BodyLaws.{is-body, looked, place-body}
 use Rattle.union.proofs.Demand3.{write-keeps}
 use Rattle.writes.specs.declared.form.Verdict.{Verdict}
 use Rattle.writes.specs.declared.form.Verdict.the-variants as verdict
 use Rattle.writes.specs.declared.plan.Plan.{Plan}
-use Rattle.writes.specs.Apply.{CanLearnPath, CanApply}
-use Rattle.writes.specs.Judge.{judged, Does, CanWriteHeld, CanWriteNew, Wrote}
-use Rattle.writes.specs.Path.{writeOf, countOf, GoodForm, givesOf, addLast}
+use Rattle.writes.specs.Apply.{CanApply}
+use Rattle.writes.specs.Judge.{isAbsent, judged, Does, CanWrite, Wrote}
+use Rattle.writes.specs.Path.{countOf, GoodForm, givesOf, addLast}
 use Rattle.writes.specs.Plan.{planOf, CanPlan}
 use Rattle.writes.specs.Verdict.{verdictOf}
 use Rattle.writes.proofs.AddLaws.{Falls, add-oldest-first}
 use Rattle.writes.proofs.FormLaws.{positive, good-form}
 use Rattle.writes.proofs.JudgeLaws.{write-formless, write-refused, write-same, write-changed, Clear, clear-says}
 use Rattle.writes.proofs.LearnLaws.{falls-gives}
+use Rattle.writes.proofs.PassLaws.{one-most}
 use Rattle.writes.proofs.PathLaws.{length-gives, gives-of}
-use Rattle.writes.proofs.PlanLaws.{plan-crossed, plan-revisions, plan-adds, plan-rest}
+use Rattle.writes.proofs.PlanLaws.{plan-crossed, plan-revisions, plan-rest}
 use Rattle.writes.proofs.ReachLaws.{Parted, add-within, tree-parted, none-parted}
 use Rattle.writes.proofs.StateLaws.{at-insert, held-blank, added-held, added-new, held-tree-of, none-tree-of}
 
@@ -66,10 +67,10 @@ refused-some (some m) n e = let q : m ≡ n = cc in ap {B = Option Refusal} some
 -- ---- what is held
 
 -- what a buffer holds it holds
-pub holds-itself : (s : List ℕ) → Laid s → Holds (replicaOf s) s
+holds-itself : (s : List ℕ) → Laid s → Holds (replicaOf s) s
 holds-itself s l = record { bytes = l .same; laid = l; means = refl }
 
-pub holds-same : (r r′ : Replica) (s : List ℕ) → r ≡ r′ → Holds r s → Holds r′ s
+holds-same : (r r′ : Replica) (s : List ℕ) → r ≡ r′ → Holds r s → Holds r′ s
 holds-same r r′ s e h = subst (λ (x : Replica). Holds x s) e h
 
 does : (s : List ℕ) (w : Write) (r : Written) (x : Replica) (s′ : List ℕ) → write (replicaOf s) w ≡ (r, x) → Holds x s′ → Does s w r s′
@@ -79,7 +80,7 @@ does s w r x s′ e h = record {
 }
 
 -- a form that is refused
-pub does-formless : (s : List ℕ) (w : Write) (n : Refusal) → Laid s → firstThat (formRefusals w) ≡ some n → Does s w (written.Refused n) s
+does-formless : (s : List ℕ) (w : Write) (n : Refusal) → Laid s → firstThat (formRefusals w) ≡ some n → Does s w (written.Refused n) s
 does-formless s w n l e = does s w (written.Refused n) (replicaOf s) s (write-formless (replicaOf s) w n e) (holds-itself s l)
 
 -- a write of a good form, with its plan and the verdict on it
@@ -129,14 +130,14 @@ module _ {s : List ℕ} {w : Write} {absent : Bool} {p : Plan} {v : Verdict} (j 
 -- ---- the tree that is written to
 
 -- what a write needs of it
-pub record Sound (t : Tree) : Type 0 where
+record Sound (t : Tree) : Type 0 where
   pub ascending : Ascending orderRev t
   pub parted : Parted t
 
-pub sound-tree : (t : Tree) → IsTree t → Sound t
+sound-tree : (t : Tree) → IsTree t → Sound t
 sound-tree t i = record { ascending = i .ascending; parted = tree-parted t i }
 
-pub sound-none : Sound []
+sound-none : Sound []
 sound-none = record { ascending = tt; parted = none-parted }
 
 -- the m newest of a path, oldest first, leave what the whole path does
@@ -146,7 +147,7 @@ module _ (t : Tree) (w : Write) (sound : Sound t) (good : GoodForm w) (m : ℕ) 
       add-oldest-first (gives w) t (sound .ascending)
       (subst Falls (sym (gives-of w)) (falls-gives (w .number) (w .path) (w .content) (good .deep)))
 
-  pub newest-whole : m ≡ min (planOf t (gives w) .reach) (countOf (w .path)) → (planOf t (gives w) .reach ≡ 0 → ⊥) → planOf t (gives w) .crossed ≡ false
+  newest-whole : m ≡ min (planOf t (gives w) .reach) (countOf (w .path)) → (planOf t (gives w) .reach ≡ 0 → ⊥) → planOf t (gives w) .crossed ≡ false
       → addLast (take m (givesOf (w .number) (w .path) (w .content))) t ≡ addAll (gives w) t
   newest-whole e z o = ap (λ (gs : List (Revision × Node)). addLast (take m gs) t) (sym (gives-of w)) ∙ (go (leb reach (countOf (w .path))) refl ∙ sym whole)
     where
@@ -164,14 +165,8 @@ module _ (t : Tree) (w : Write) (sound : Sound t) (good : GoodForm w) (m : ℕ) 
           let n = length-gives w in
           ap (λ (gs : List (Revision × Node)). addLast gs t) (take-all m (gives w) (omega arith))
 
-  pub all-whole : m ≡ countOf (w .path) → addLast (take m (givesOf (w .number) (w .path) (w .content))) t ≡ addAll (gives w) t
-  all-whole e =
-      let n = length-gives w in
-      ap (λ (gs : List (Revision × Node)). addLast (take m gs) t) (sym (gives-of w))
-      ∙ (ap (λ (gs : List (Revision × Node)). addLast gs t) (take-all m (gives w) (omega arith)) ∙ sym whole)
-
-pub few-revisions : (t : Tree) (w : Write) (p : Plan) → GoodForm w → p ≡ planOf t (gives w) → p .revisions ≤ hashesMost
-unfolding countNew
+few-revisions : (t : Tree) (w : Write) (p : Plan) → GoodForm w → p ≡ planOf t (gives w) → p .revisions ≤ hashesMost
+unfolding countNew howMany
 few-revisions t w p g e =
     let a = ap (λ (x : Plan). x .revisions) e in
     let b = plan-revisions t (gives w) in
@@ -180,219 +175,191 @@ few-revisions t w p g e =
     let m = g .most in
     omega arith
   where
-    one-most : (b : Bool) → pick b 1 0 ≤ 1
-    one-most true = omega arith
-    one-most false = omega arith
-
     count-most : (t : Tree) (gs : List (Revision × Node)) → countNew t gs ≤ length gs
     count-most t [] = omega arith
     count-most t (g ∷ gs) = let h = count-most t gs in let o = one-most (isNew t g) in omega arith
 
-seq-left : (r : Replica) (absent : Bool) (p : Plan) → IsReplica r → Clear r absent p → (p .reach ≡ 0 → ⊥) → r .seq .0 < last
-seq-left r absent p i k z = below (r .seq .0) last (i .seq-most) (k .seq z)
+seq-left : (r : Replica) (absent : Bool) (p : Plan) → IsReplica r → Clear r absent p → (p .reach ≡ 0 → ⊥) → r .seq .0 < seqMost
+seq-left r absent p i k z = below (r .seq .0) seqMost (i .seq-most) (k .seq z)
   where
     below : (a b : ℕ) → a ≤ b → (a ≡ b → ⊥) → a < b
     below a b h n = omega arith
 
--- ---- a document that is held
+-- ---- the document that was looked for
 
-module _ {s : List ℕ} {d : ℕ} {number : RevNumber} {path : List ℕ} {c : Content} (can : CanWriteHeld s d number path c) where
-  abbrev held-write : Write
-  held-write = writeOf (documentAt (documentsOf s) d .0) number path c
+module _ {s : List ℕ} (i : Id) (is : IsStored s) where
+  pub place-looked : {f : Found} → placeOfId 0 i (documentsOf s) ≡ f → Looked s f
+  place-looked e = looked i (stored-laid s is) e
 
-  abbrev held-tree : Tree
-  held-tree = documentAt (documentsOf s) d .1 .tree
+  pub place-shows : {f : Found} {b : Body} → placeOfId 0 i (documentsOf s) ≡ f → b ≡ bodyAt (documentsOf s) f → Shows s b (treeOf (replicaOf s) i)
+  place-shows e h = place-body i (stored-laid s is) e h .shows
 
-  held-at : IsAt d (documentAt (documentsOf s) d .0) (documentsOf s)
-  held-at = id-found d (documentAt (documentsOf s) d .0) (documentsOf s) (can .place)
-
-  held-laid : Laid s
-  held-laid = stored-laid s (can .stored)
-
-  pub held-has : HasDocument s d
-  held-has = record { laid = held-laid; within = held-at .within }
-
-  held-good : GoodForm held-write
-  held-good = good-form held-write (can .form)
-
-  held-is : IsTree held-tree
+  absence : {f : Found} → placeOfId 0 i (documentsOf s) ≡ f → isNone (documentOf (replicaOf s) i) ≡ isAbsent f
   unfolding documentOf
-  held-is = can .stored .replica .documents (documentAt (documentsOf s) d .0) (documentAt (documentsOf s) d .1) (held-at .found) .tree
+  absence {f} = go f
+    where
+      go : (g : Found) → placeOfId 0 i (documentsOf s) ≡ g → isNone (documentOf (replicaOf s) i) ≡ isAbsent g
+      go (At d) e = ap isNone (id-found d i (documentsOf s) e .found)
+      go (Gap d) e = ap isNone (id-gap d i (documentsOf s) e .found)
 
-  tree-is : treeOf (replicaOf s) (held-write .id) ≡ held-tree
-  tree-is = held-tree-of (replicaOf s) held-write d (λ t. t) held-at
+-- ---- its plan and the verdict on it
 
-  held-there : isNone (documentOf (replicaOf s) (held-write .id)) ≡ false
-  unfolding documentOf
-  held-there = ap isNone (held-at .found)
+module _ {s : List ℕ} {f : Found} {w : Write} (can : CanWrite s f w) where
+  abbrev t : Tree
+  t = treeOf (replicaOf s) (w .id)
 
-  pub held-can-plan : (b : Body) → IsBody s d b → CanPlan s (b .base) (b .rows) (number .0) path
-  held-can-plan b i =
-      let h = body-shows s d b i in
+  good : GoodForm w
+  good = good-form w (can .form)
+
+  laid : Laid s
+  laid = stored-laid s (can .stored)
+
+  sound : Sound t
+  unfolding treeOf
+  sound = go (documentOf (replicaOf s) (w .id)) refl
+    where
+      go : (o : Option Document) → documentOf (replicaOf s) (w .id) ≡ o → Sound (rules.treeIn o)
+      go none e = sound-none
+      go (some d) e = sound-tree (d .tree) (can .stored .replica .documents (w .id) d e .tree)
+
+  module _ {b : Body} (body : b ≡ bodyAt (documentsOf s) f) where
+    pub can-plan : CanPlan s b (w .number .0) (w .path)
+    can-plan =
+        let h = place-shows (w .id) (can .stored) (can .place) body in
+        record {
+          search = record { within = h .within; ascending = subst (Ascending orderRev) (sym (h .tree)) (sound .ascending) };
+          most = good .most;
+          deep = good .deep;
+        }
+
+    module _ {p : Plan} (plan : p ≡ planOf (treeIn b s) (givesOf (w .number) (w .path) (w .content))) where
+      plan-is : p ≡ planOf t (gives w)
+      plan-is = plan ∙ ap₂ planOf (place-shows (w .id) (can .stored) (can .place) body .tree) (sym (gives-of w))
+
+      pub can-judge : Laid s × (p .revisions ≤ hashesMost)
+      can-judge = (laid, few-revisions t w p good plan-is)
+
+      pub is-judged : {v : Verdict} → v ≡ verdictOf (firstThat (judged (replicaOf s) (isAbsent f) p)) → Judged s w (isAbsent f) p v
+      is-judged e = record { laid = laid; form = can .form; absence = absence (w .id) (can .stored) (can .place); plan = plan-is; verdict = e }
+
+-- ---- what is applied
+
+-- a write that no rule refuses and that adds something, with the m newest that are enough
+pub record Ready (s : List ℕ) (f : Found) (w : Write) (b : Body) (p : Plan) (m : ℕ) : Type 0 where
+  pub can : CanWrite s f w
+  pub body : b ≡ bodyAt (documentsOf s) f
+  pub plan : p ≡ planOf (treeIn b s) (givesOf (w .number) (w .path) (w .content))
+  pub clear : Clear (replicaOf s) (isAbsent f) p
+  pub adds : p .reach ≡ 0 → ⊥
+  pub least : m ≡ min (p .reach) (length (w .path) / hashSize)
+
+module _ {s : List ℕ} {f : Found} {w : Write} {b : Body} {p : Plan} {m : ℕ} (ready : Ready s f w b p m) where
+  abbrev tree : Tree
+  tree = treeOf (replicaOf s) (w .id)
+
+  form : GoodForm w
+  form = good (ready .can)
+
+  bytes-laid : Laid s
+  bytes-laid = laid (ready .can)
+
+  held-sound : Sound tree
+  held-sound = sound (ready .can)
+
+  planned-so : p ≡ planOf tree (gives w)
+  planned-so = plan-is (ready .can) (ready .body) (ready .plan)
+
+  abbrev newest : Tree → Tree
+  newest = addLast (take m (givesOf (w .number) (w .path) (w .content)))
+
+  -- what is applied is enough
+  enough : newest tree ≡ addAll (gives w) tree
+  unfolding countOf
+  enough =
+      newest-whole tree w held-sound form m (ready .least ∙ ap (λ (x : Plan). min (x .reach) (length (w .path) / hashSize)) planned-so)
+      (λ z. ready .adds (ap (λ (x : Plan). x .reach) planned-so ∙ z)) (sym (ap (λ (x : Plan). x .crossed) planned-so) ∙ ready .clear .crossed)
+
+  -- it can be applied to a document d that has this tree, where as many revisions are held and the sequence is this one
+  can-apply : (s₁ : List ℕ) (d : ℕ) (b₁ : Body) → IsBody s₁ d b₁ → documentAt (documentsOf s₁) d .1 .tree ≡ tree
+      → revisionsHeld (documentsOf s₁) ≡ revisionsHeld (documentsOf s) → replicaOf s₁ .seq ≡ replicaOf s .seq
+      → CanApply s₁ d b₁ (w .number) (w .path) (w .content) m
+  unfolding countOf
+  can-apply s₁ d b₁ body₁ e held seq =
+      let u = ap (λ (x : Plan). x .revisions) planned-so ∙ plan-revisions tree (gives w) in
+      let v : countNew (documentAt (documentsOf s₁) d .1 .tree) (givesOf (w .number) (w .path) (w .content)) ≡ countNew tree (gives w) = ap₂ countNew e (sym (gives-of w)) in
+      let k = ready .clear .revisions in
+      let q = seq-left (replicaOf s) (isAbsent f) p (ready .can .stored .replica) (ready .clear) (ready .adds) in
+      let z = ap (λ (x : Seq). x .0) seq in
       record {
-        search = record { within = h .within; ascending = subst (Ascending orderRev) (sym (h .tree)) (held-is .ascending) };
-        most = held-good .most;
-        deep = held-good .deep;
+        body = body₁;
+        ascending = subst (Ascending orderRev) (sym e) (held-sound .ascending);
+        room = omega arith;
+        newest = omega arith;
+        most = form .most;
+        deep = form .deep;
+        seq = omega arith;
       }
 
-  module _ {b : Body} {p : Plan} (body : IsBody s d b) (plan : p ≡ planOf (treeAt (b .base) (b .rows) s) (givesOf number path c)) where
-    held-planned : p ≡ planOf (treeOf (replicaOf s) (held-write .id)) (gives held-write)
-    held-planned = plan ∙ ap₂ planOf (body-shows s d b body .tree ∙ sym tree-is) (sym (gives-of held-write))
+  module _ {d : ℕ} (here : f ≡ At d) where
+    place : placeOfId 0 (w .id) (documentsOf s) ≡ At d
+    place = ready .can .place ∙ here
 
-    plan-is : p ≡ planOf held-tree (gives held-write)
-    plan-is = held-planned ∙ ap (λ (t : Tree). planOf t (gives held-write)) tree-is
+    at : IsAt d (w .id) (documentsOf s)
+    at = id-found d (w .id) (documentsOf s) place
 
-    pub held-can-judge : Laid s × (p .revisions ≤ hashesMost)
-    held-can-judge = (held-laid, few-revisions held-tree held-write p held-good plan-is)
+    tree-is : tree ≡ documentAt (documentsOf s) d .1 .tree
+    tree-is = held-tree-of (replicaOf s) w d newest at
 
-    pub held-judged : {v : Verdict} → v ≡ verdictOf (firstThat (judged (replicaOf s) false p)) → Judged s held-write false p v
-    held-judged e = record { laid = held-laid; form = can .form; absence = held-there; plan = held-planned; verdict = e }
+    pub held-can-apply : CanApply s d b (w .number) (w .path) (w .content) m
+    held-can-apply =
+        can-apply s d b
+        (is-body s d b (record { laid = bytes-laid; within = at .within }) (ready .body ∙ ap (bodyAt (documentsOf s)) here)) (sym tree-is) refl refl
 
-    module _ {m : ℕ} (clear : Clear (replicaOf s) false p) (adds : p .reach ≡ 0 → ⊥) (least : m ≡ min (p .reach) (length path / 16)) where
-      pub held-can-apply : CanApply s d b number path c m
-      unfolding countOf
-      held-can-apply =
-          let u = ap (λ (x : Plan). x .revisions) plan-is ∙ plan-revisions held-tree (gives held-write) in
-          let v : countNew held-tree (gives held-write) ≡ countNew held-tree (givesOf number path c) = ap (countNew held-tree) (gives-of held-write) in
-          let k = clear .revisions in
-          record {
-            learn = record {
-              body = body;
-              ascending = held-is .ascending;
-              room = omega arith;
-              newest = omega arith;
-              most = held-good .most;
-              deep = held-good .deep;
-            };
-            seq = seq-left (replicaOf s) false p (can .stored .replica) clear adds;
-          }
+    pub held-added : {s′ : List ℕ} → Holds (withSeq d (next (replicaOf s .seq)) (withTree d newest (replicaOf s))) s′ → Holds (added (replicaOf s) w) s′
+    held-added {s′} h =
+        holds-same _ (added (replicaOf s) w) s′
+        (added-held (replicaOf s) w d newest at (ap newest (sym tree-is) ∙ enough)) h
 
-      pub held-added : (s′ : List ℕ) → Holds (withSeq d (next (replicaOf s .seq)) (withTree d (addLast (take m (givesOf number path c))) (replicaOf s))) s′ → Holds (added (replicaOf s) held-write) s′
-      unfolding countOf
-      held-added s′ h =
-          let e = newest-whole held-tree held-write (sound-tree held-tree held-is) held-good m
-          (least ∙ ap (λ (x : Plan). min (x .reach) (length path / 16)) plan-is) (λ z. adds (ap (λ (x : Plan). x .reach) plan-is ∙ z))
-          (sym (ap (λ (x : Plan). x .crossed) plan-is) ∙ clear .crossed) in
-          holds-same _ (added (replicaOf s) held-write) s′
-          (added-held (replicaOf s) held-write d (addLast (take m (givesOf number path c))) held-at
-          (e ∙ ap (addAll (gives held-write)) (sym tree-is))) h
+  module _ {d : ℕ} (here : f ≡ Gap d) where
+    gap : IsGap d (w .id) (documentsOf s)
+    gap = id-gap d (w .id) (documentsOf s) (ready .can .place ∙ here)
 
--- ---- a document that is absent
+    no-tree : tree ≡ []
+    no-tree = none-tree-of (replicaOf s) w d newest gap
 
-module _ {s : List ℕ} {d : ℕ} {i : Id} {number : RevNumber} {path : List ℕ} {c : Content} (can : CanWriteNew s d i number path c) where
-  abbrev new-write : Write
-  new-write = writeOf i number path c
+    pub new-can-add : CanAddDocument s d (w .id)
+    new-can-add = record { laid = bytes-laid; place = gap .within; room = ready .clear .documents (ap isAbsent here); id = form .id-most }
 
-  new-gap : IsGap d i (documentsOf s)
-  new-gap = id-gap d i (documentsOf s) (can .place)
+    module _ {s₁ : List ℕ} (opened : Holds (withDocument d (w .id) (replicaOf s)) s₁) where
+      docs-are : documentsOf s₁ ≡ insertAt d (blank (w .id)) (documentsOf s)
+      unfolding withDocument
+      docs-are = ap (λ (x : Replica). x .documents) (opened .means)
 
-  new-laid : Laid s
-  new-laid = stored-laid s (can .stored)
+      seq-is : replicaOf s₁ .seq ≡ replicaOf s .seq
+      unfolding withDocument
+      seq-is = ap (λ (x : Replica). x .seq) (opened .means)
 
-  new-good : GoodForm new-write
-  new-good = good-form new-write (can .form)
+      pub new-has : HasDocument s₁ d
+      new-has =
+          let e = ap length docs-are ∙ length-insert d (blank (w .id)) (documentsOf s) (gap .within) in
+          let i = gap .within in
+          record { laid = opened .laid; within = omega arith }
 
-  no-tree : treeOf (replicaOf s) i ≡ []
-  no-tree = none-tree-of (replicaOf s) new-write d (λ t. t) new-gap
+      empty : documentAt (documentsOf s₁) d .1 .tree ≡ []
+      unfolding documentAt
+      empty =
+          ap (λ (x : Id × Document). x .1 .tree)
+          (ap (λ (ds : Map Id Document). getD ds d noDocument) docs-are ∙ at-insert d (blank (w .id)) (documentsOf s) noDocument (gap .within))
 
-  new-absent : isNone (documentOf (replicaOf s) i) ≡ true
-  unfolding documentOf
-  new-absent = ap isNone (new-gap .found)
+      pub new-can-apply : {b₁ : Body} → IsBody s₁ d b₁ → CanApply s₁ d b₁ (w .number) (w .path) (w .content) m
+      new-can-apply {b₁} body₁ =
+          can-apply s₁ d b₁ body₁ (empty ∙ sym no-tree) (ap revisionsHeld docs-are ∙ held-blank d (w .id) (documentsOf s) (gap .within)) seq-is
 
-  no-rows : treeAt 0 0 s ≡ []
-  unfolding treeAt pieces
-  no-rows = refl
-
-  pub new-can-plan : CanPlan s 0 0 (number .0) path
-  new-can-plan = record {
-    search = record { within = omega arith; ascending = subst (Ascending orderRev) (sym no-rows) tt };
-    most = new-good .most;
-    deep = new-good .deep;
-  }
-
-  module _ {p : Plan} (plan : p ≡ planOf (treeAt 0 0 s) (givesOf number path c)) where
-    new-planned : p ≡ planOf (treeOf (replicaOf s) i) (gives new-write)
-    new-planned = plan ∙ ap₂ planOf (no-rows ∙ sym no-tree) (sym (gives-of new-write))
-
-    plan-of-none : p ≡ planOf [] (gives new-write)
-    plan-of-none = plan ∙ ap₂ planOf no-rows (sym (gives-of new-write))
-
-    pub new-can-judge : Laid s × (p .revisions ≤ hashesMost)
-    new-can-judge = (new-laid, few-revisions [] new-write p new-good plan-of-none)
-
-    pub new-judged : {v : Verdict} → v ≡ verdictOf (firstThat (judged (replicaOf s) true p)) → Judged s new-write true p v
-    new-judged e = record { laid = new-laid; form = can .form; absence = new-absent; plan = new-planned; verdict = e }
-
-    -- all that the path gives is new
-    pub new-adds : p .reach ≡ 0 → ⊥
-    unfolding any isAddition find
-    new-adds z =
-        let n = length-gives new-write in
-        let l = new-good .least in
-        let a : any (isAddition []) (gives new-write) ≡ true = first-new (gives new-write) (omega arith) in
-        let f : not (eqb (planOf [] (gives new-write) .reach) 0) ≡ true = plan-adds [] (gives new-write) ∙ a in
-        let g : eqb (planOf [] (gives new-write) .reach) 0 ≡ true = eq-eqb (planOf [] (gives new-write) .reach) 0 (sym (ap (λ (x : Plan). x .reach) plan-of-none) ∙ z) in
-        let q : _≡_ {A = Bool} false true = sym (ap not g) ∙ f in
-        let y : _≡_ {A = ℕ} 0 1 = cc in
-        omega arith
-      where
-        first-new : (gs : List (Revision × Node)) → 1 ≤ length gs → any (isAddition []) gs ≡ true
-        first-new [] h = absurd (omega arith)
-        first-new (g ∷ gs) h = refl
-
-    module _ (clear : Clear (replicaOf s) true p) where
-      pub new-can-add : CanAddDocument s d i
-      new-can-add = record { laid = new-laid; place = new-gap .within; room = clear .documents refl; id = new-good .id-most }
-
-      module _ {s₁ : List ℕ} (opened : Holds (withDocument d i (replicaOf s)) s₁) where
-        docs-are : documentsOf s₁ ≡ insertAt d (blank i) (documentsOf s)
-        unfolding withDocument
-        docs-are = ap (λ (x : Replica). x .documents) (opened .means)
-
-        seq-is : replicaOf s₁ .seq ≡ replicaOf s .seq
-        unfolding withDocument
-        seq-is = ap (λ (x : Replica). x .seq) (opened .means)
-
-        pub new-has : HasDocument s₁ d
-        new-has =
-            let e = ap length docs-are ∙ length-insert d (blank i) (documentsOf s) (new-gap .within) in
-            let w = new-gap .within in
-            record { laid = opened .laid; within = omega arith }
-
-        empty : documentAt (documentsOf s₁) d .1 .tree ≡ []
-        unfolding documentAt
-        empty = ap (λ (x : Id × Document). x .1 .tree) (ap (λ (ds : Map Id Document). getD ds d noDocument) docs-are ∙ at-insert d (blank i) (documentsOf s) noDocument (new-gap .within))
-
-        pub new-can-apply : {b : Body} → IsBody s₁ d b → CanApply s₁ d b number path c (length path / 16)
-        unfolding countOf
-        new-can-apply body =
-            let u = ap (λ (x : Plan). x .revisions) plan-of-none ∙ plan-revisions [] (gives new-write) in
-            let v : countNew (documentAt (documentsOf s₁) d .1 .tree) (givesOf number path c) ≡ countNew [] (gives new-write) = ap₂ countNew empty (sym (gives-of new-write)) in
-            let h = ap revisionsHeld docs-are ∙ held-blank d i (documentsOf s) (new-gap .within) in
-            let k = clear .revisions in
-            let q = seq-left (replicaOf s) true p (can .stored .replica) clear new-adds in
-            let e = ap (λ (x : Seq). x .0) seq-is in
-            record {
-              learn = record {
-                body = body;
-                ascending = subst (Ascending orderRev) (sym empty) tt;
-                room = omega arith;
-                newest = omega arith;
-                most = new-good .most;
-                deep = new-good .deep;
-              };
-              seq = omega arith;
-            }
-
-        pub new-added : (s₂ : List ℕ) → Holds (withSeq d (next (replicaOf s₁ .seq)) (withTree d (addLast (take (length path / 16) (givesOf number path c))) (replicaOf s₁))) s₂
-            → Holds (added (replicaOf s) new-write) s₂
-        unfolding countOf
-        new-added s₂ h =
-            let f = addLast (take (length path / 16) (givesOf number path c)) in
-            let e : f [] ≡ addAll (gives new-write) (treeOf (replicaOf s) i) =
-            all-whole [] new-write sound-none new-good (length path / 16) refl ∙ ap (addAll (gives new-write)) (sym no-tree) in
-            holds-same _ (added (replicaOf s) new-write) s₂
-            (ap₂ (λ (q : Seq) (x : Replica). withSeq d (next q) (withTree d f x)) seq-is (opened .means) ∙ added-new (replicaOf s) new-write d f new-gap e) h
+      pub new-added : {s₂ : List ℕ} → Holds (withSeq d (next (replicaOf s₁ .seq)) (withTree d newest (replicaOf s₁))) s₂ → Holds (added (replicaOf s) w) s₂
+      new-added {s₂} h =
+          holds-same _ (added (replicaOf s) w) s₂
+          (ap₂ (λ (q : Seq) (x : Replica). withSeq d (next q) (withTree d newest x)) seq-is (opened .means)
+          ∙ added-new (replicaOf s) w d newest gap (ap newest (sym no-tree) ∙ enough)) h
 
 -- ---- the promise
 
@@ -418,22 +385,3 @@ pub wrote-formless : {s : List ℕ} {w : Write} {n : Refusal} → IsStored s →
 wrote-formless {s} {w} {n} i e =
     let d = does-formless s w n (stored-laid s i) e in
     record { answer = d .answer; left = d .holds .bytes; means = d .holds .means; is = i }
-
--- a write of a good form, from what was found
-module _ {s : List ℕ} (i : Id) (number : RevNumber) (path : List ℕ) (c : Content) (stored : IsStored s) where
-  pub found-held : (d : ℕ) → placeOfId 0 i (documentsOf s) ≡ At d → firstThat (formRefusals (writeOf i number path c)) ≡ none → CanWriteHeld s d number path c
-  found-held d e f =
-      let q : i ≡ documentAt (documentsOf s) d .0 = sym (id-found d i (documentsOf s) e .is) in
-      record {
-        stored = stored;
-        place = subst (λ (x : Id). placeOfId 0 x (documentsOf s) ≡ At d) q e;
-        form = subst (λ (x : Id). firstThat (formRefusals (writeOf x number path c)) ≡ none) q f;
-      }
-
-  pub wrote-new : {s′ : List ℕ} {r : Written} (o : Content) → c ≡ o → IsWrite (writeOf i number path c) → Does s (writeOf i number path c) r s′ → Wrote s (writeOf i number path o) r s′
-  wrote-new {s′} {r} o e q h = subst (λ (x : Content). Wrote s (writeOf i number path x) r s′) e (wrote stored q h)
-
-  pub wrote-held : {s′ : List ℕ} {r : Written} (o : Content) → c ≡ o → IsWrite (writeOf i number path c) → (d : ℕ) → placeOfId 0 i (documentsOf s) ≡ At d
-      → Does s (writeOf (documentAt (documentsOf s) d .0) number path c) r s′ → Wrote s (writeOf i number path o) r s′
-  wrote-held {s′} {r} o e q d p h =
-      wrote-new o e q (subst (λ (x : Id). Does s (writeOf x number path c) r s′) (id-found d i (documentsOf s) p .is) h)

@@ -1,9 +1,7 @@
 -- What the promises of this crate cite.
 pub mod Path
 pub mod Plan
-pub mod Edit
 pub mod Verdict
 pub mod Judge
 pub mod Apply
-pub mod Always
 pub mod Calls

@@ -1,9 +1,8 @@
 -- What a path gives, hash by hash.
 use mathlib.Core.Path.{_≡_}
-use mathlib.Core.Bool.{Bool, true, false, not, _||_}
 use mathlib.Core.List.{List, [], _∷_}
 use mathlib.Core.Option.{Option, none, some}
-use Prim.Native.Nat.{ℕ, zero, suc, _+_, _-_, _*_, _/_, _%_, _≤_, _<_}
+use Prim.Native.Nat.{ℕ, _+_, _-_, _*_, _/_, _≤_, _<_}
 use lib.Dec.{eqb, ltb}
 use lib.ListN.{length}
 use Rattle.rules.specs.declared.Content.{Content}
@@ -24,11 +23,6 @@ writeOf i n p c = record { id = i; number = n; path = p; content = c }
 -- how many hashes bytes are
 unfoldable pub countOf : List ℕ → ℕ
 countOf path = length path / hashSize
-
--- "path bytes not a multiple of 16, or not 1 to 512 hashes"
-unfoldable pub badBytes : List ℕ → Bool
-badBytes path =
-    not (eqb (length path % hashSize) 0) || (eqb (countOf path) 0 || ltb hashesMost (countOf path))
 
 -- the k-th hash after the newest
 unfoldable pub hashAt : List ℕ → ℕ → Hash

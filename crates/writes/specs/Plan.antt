@@ -3,32 +3,23 @@ use mathlib.Core.Path.{_≡_}
 use mathlib.Core.Bool.{Bool, true, false, not, _&&_, _||_}
 use mathlib.Core.List.{List, [], _∷_}
 use mathlib.Core.Option.{Option, none, some}
-use Prim.Native.Nat.{ℕ, zero, suc, _+_, _-_, _*_, _≤_, _<_}
+use Prim.Native.Nat.{ℕ, _+_, _-_, _≤_, _<_}
 use lib.Dec.{eqb}
-use lib.ListN.{length, drop}
+use lib.ListN.{drop}
 use Rattle.rules.specs.declared.Revision.{Revision}
 use Rattle.rules.specs.Choice.{pick, maybe}
-use Rattle.rules.specs.Image.{rowSize}
 use Rattle.rules.specs.declared.Order.the-variants.{Less}
-use Rattle.rules.specs.Map.{find, Below}
+use Rattle.rules.specs.Map.{Below}
 use Rattle.rules.specs.Order.{orderRev, sameRev}
-use Rattle.rules.specs.Read.{parentIn}
 use Rattle.rules.specs.Replica.{Node, Tree}
-use Rattle.rules.specs.Write.{lacksParent, isNew, isAddition, otherParent, otherContent}
+use Rattle.rules.specs.Write.{isNew, isNewParent, isAddition, otherParent, otherContent}
 use Rattle.rules.specs.Room.{hashesMost}
 use Rattle.tree.specs.Rows.{nodeAt}
-use Rattle.tree.specs.Table.{treeAt, Searchable}
+use Rattle.tree.specs.declared.table.Body.{Body}
+use Rattle.tree.specs.Table.{treeIn, rowStart, Searchable}
 use Rattle.writes.specs.declared.plan.Plan.{Plan}
 use Rattle.writes.specs.declared.plan.Pass.{Pass}
 use Rattle.writes.specs.Path.{countOf, revAt, parentAt}
-
--- a parent that the path gives and the tree lacks
-unfoldable pub isNewParent : Tree → Revision × Node → Bool
-isNewParent t g = lacksParent (g .1 .parent) (parentIn (find orderRev (g .0) t))
-
-unfoldable pub countParents : Tree → List (Revision × Node) → ℕ
-countParents t [] = 0
-countParents t (g ∷ gs) = pick (isNewParent t g) 1 0 + countParents t gs
 
 abbrev pub noPlan : Plan
 noPlan = record { crossed = false; other = false; revisions = 0; parents = 0; reach = 0 }
@@ -61,11 +52,11 @@ parentHeld (some p) held = maybe false (λ q. sameRev q p) held
 unfoldable pub holds : Revision × Node → Revision → Option Revision → Bool
 holds x v o = sameRev (x .0) v && parentHeld o (x .1 .parent)
 
--- the last row below the top holds the k-th revision, which is not the newest
-unfoldable pub settled : ℕ → ℕ → List ℕ → ℕ → List ℕ → ℕ → Bool
-settled base top s number path k =
+-- the last row holds the k-th revision, which is not the newest
+unfoldable pub settled : Body → List ℕ → ℕ → List ℕ → ℕ → Bool
+settled b s number path k =
     not (eqb k 0)
-    && (not (eqb top 0) && holds (nodeAt (base + (top - 1) * rowSize) s) (revAt number path k) (parentAt number path k))
+    && (not (eqb (b .rows) 0) && holds (nodeAt (rowStart b (b .rows - 1)) s) (revAt number path k) (parentAt number path k))
 
 -- ---- the pass
 
@@ -75,17 +66,17 @@ pub record Counted (p : Plan) (k : ℕ) : Type 0 where
   pub revisions : p .revisions ≤ k
   pub parents : p .parents ≤ k
 
-pub record CanStep (s : List ℕ) (base top : ℕ) (p : Plan) (k : ℕ) : Type 0 where
-  pub search : Searchable base top s
+pub record CanStep (s : List ℕ) (b : Body) (p : Plan) (k : ℕ) : Type 0 where
+  pub search : Searchable b s
   pub counted : Counted p k
 
 -- the revision is planned, and every lower one is below the rows from the new top on
-pub record Stepped (s : List ℕ) (base top : ℕ) (g : Revision × Node) (p : Plan) (k : ℕ) (r : Pass) : Type 0 where
-  pub plan : r .plan ≡ planned (treeAt base top s) k p g
-  pub within : r .top ≤ top
-  pub lower : (v : Revision) → orderRev v (g .0) ≡ Less → Below orderRev v (drop (r .top) (treeAt base top s))
+pub record Stepped (s : List ℕ) (b : Body) (g : Revision × Node) (p : Plan) (k : ℕ) (r : Pass) : Type 0 where
+  pub plan : r .plan ≡ planned (treeIn b s) k p g
+  pub within : r .top ≤ b .rows
+  pub lower : (v : Revision) → orderRev v (g .0) ≡ Less → Below orderRev v (drop (r .top) (treeIn b s))
 
-pub record CanPlan (s : List ℕ) (base n number : ℕ) (path : List ℕ) : Type 0 where
-  pub search : Searchable base n s
+pub record CanPlan (s : List ℕ) (b : Body) (number : ℕ) (path : List ℕ) : Type 0 where
+  pub search : Searchable b s
   pub most : countOf path ≤ hashesMost
   pub deep : countOf path ≤ number

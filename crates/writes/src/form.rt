@@ -1,14 +1,15 @@
 // The refusals of a write's form, 1 to 3.
 use rules::Content;
+use rules::HASH;
 use rules::PATH_HASHES;
 use rules::Refusal;
 use rules::RevNumber;
+use store::read::bad_id;
 ghost use mathlib.Core.Path.{_≡_};
 ghost use Rattle.rules.specs.Choice.{firstThat};
 ghost use Rattle.rules.specs.Replica.{IsContent};
-ghost use Rattle.rules.specs.Write.{badId, formRefusals};
-ghost use lib.Dec.{ltb};
-ghost use Rattle.writes.specs.Path.{writeOf, countOf, badBytes};
+ghost use Rattle.rules.specs.Write.{Write, badPath, lowNumber, formRefusals};
+ghost use Rattle.writes.specs.Path.{writeOf};
 ghost use Rattle.writes.specs.Verdict.{verdictOf};
 
 // The same content: its label is below 2^64, as every u64 is, and here that is said of it.
@@ -27,24 +28,14 @@ pub enum Verdict {
     Refused(Refusal),
 }
 
-// 1: an id that is empty or over 32 bytes.
-pub fn bad_id(id: &[u8]) -> bool
-    ensures { λ r. ⌜ r ≡ badId (now (id .entry)) ⌝ }
-{
-    if id.len() == 0 {
-        return true;
-    }
-    32 < id.len()
-}
-
 // 2: bytes that are not a multiple of 16, or not 1 to 512 hashes.
 fn bad_path(path: &[u8]) -> bool
-    ensures { λ r. ⌜ r ≡ badBytes (now (path .entry)) ⌝ }
+    ensures { λ r. ⌜ ((w : Write) → w .path ≡ now (path .entry) → r ≡ badPath w) ⌝ }
 {
-    if path.len() % 16 != 0 {
+    if path.len() % HASH != 0 {
         return true;
     }
-    let count = path.len() / 16;
+    let count = path.len() / HASH;
     if count == 0 {
         return true;
     }
@@ -53,9 +44,9 @@ fn bad_path(path: &[u8]) -> bool
 
 // 3: a number smaller than the count of hashes.
 fn low_number(number: RevNumber, path: &[u8]) -> bool
-    ensures { λ r. ⌜ r ≡ ltb (number .0) (countOf (now (path .entry))) ⌝ }
+    ensures { λ r. ⌜ ((w : Write) → w .number ≡ number → w .path ≡ now (path .entry) → r ≡ lowNumber w) ⌝ }
 {
-    (number.0 as usize) < path.len() / 16
+    (number.0 as usize) < path.len() / HASH
 }
 
 // 1 to 3, in that order; they don't depend on the content.

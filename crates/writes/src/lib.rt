@@ -1,27 +1,24 @@
 // Writes: the path write, over a replica in a lent buffer.
 // A read-only pass over the path plans the write and decides every refusal; then it is applied, which
 // cannot fail. So a refused or unchanged write leaves every byte. It uses the crates rules, octets,
-// tree, store and union.
+// layout, tree, store and union.
 use crate::form::Verdict;
 use crate::form::form;
-use crate::form::in_range;
-use crate::settle::write_held;
-use crate::settle::write_new;
+use crate::settle::write_to;
 use rules::Content;
 use rules::RevNumber;
 use rules::Written;
 use store::read::find_document;
-use tree::table::Found;
 ghost use Rattle.store.specs.Storage.{IsStored};
 ghost use Rattle.writes.specs.Judge.{Wrote};
 ghost use Rattle.writes.specs.Path.{writeOf};
 
 mod apply;
-pub mod form;
+mod form;
 mod judge;
 mod path;
 mod plan;
-mod settle;
+pub mod settle;
 
 // The path write: any id, any number, any bytes as a path, any content.
 pub fn write(b: &mut [u8], id: &[u8], number: RevNumber, path: &[u8], content: Content) -> Written
@@ -31,9 +28,6 @@ pub fn write(b: &mut [u8], id: &[u8], number: RevNumber, path: &[u8], content: C
     if let Verdict::Refused(n) = form(id, number, path) {
         return Written::Refused(n);
     }
-    let content = in_range(content);
-    match find_document(b, id) {
-        Found::At(d) => write_held(b, d, number, path, content),
-        Found::Gap(d) => write_new(b, d, id, number, path, content),
-    }
+    let found = find_document(b, id);
+    write_to(b, found, id, number, path, content)
 }

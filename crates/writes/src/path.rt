@@ -1,6 +1,7 @@
 // What a path gives, hash by hash.
 use octets::run::get_hash;
 use rules::Content;
+use rules::HASH;
 use rules::RevNumber;
 use rules::Revision;
 use tree::row::Kind;
@@ -14,7 +15,7 @@ fn rev_at(path: &[u8], number: RevNumber, k: usize) -> Revision
     requires { ⌜ InPath (now path) (number .0) k ⌝ }
     ensures { λ r. ⌜ r ≡ revAt (number .0) (now (path .entry)) k ⌝ }
 {
-    let at = k * 16;
+    let at = k * HASH;
     let hash = get_hash(path, at);
     Revision {
         number: RevNumber(number.0 - (k as u32)),
@@ -40,8 +41,8 @@ pub(crate) fn given(path: &[u8], number: RevNumber, content: Content, k: usize) 
     let rev = rev_at(path, number, k);
     let kind = kind_at(content, k);
     let next = k + 1;
-    if next < path.len() / 16 {
-        let parent = get_hash(path, next * 16);
+    if next < path.len() / HASH {
+        let parent = get_hash(path, next * HASH);
         return Row {
             rev,
             known: true,
@@ -49,7 +50,7 @@ pub(crate) fn given(path: &[u8], number: RevNumber, content: Content, k: usize) 
             kind,
         };
     }
-    let parent = [0u8; 16];
+    let parent = [0u8; HASH];
     Row {
         rev,
         known: false,

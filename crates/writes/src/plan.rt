@@ -1,28 +1,34 @@
 // The plan of a write: a read-only pass over its path.
 use crate::path::given;
-use octets::number::get4;
+use layout::HASH_IN;
+use layout::PARENT_HASH_IN;
+use layout::ROW;
+use layout::row;
 use octets::number::get8;
 use rules::Content;
+use rules::HASH;
 use rules::RevNumber;
 use tree::row::Kind;
 use tree::row::Row;
+use tree::table::Body;
 use tree::table::Found;
 use tree::table::find;
 use tree::table::row_at;
 ghost use mathlib.Core.Path.{_≡_};
 ghost use mathlib.Core.Option.{Option, none, some};
 ghost use mathlib.Core.Bool.{_||_};
-ghost use Prim.Native.Nat.{ℕ, _+_, _*_, _<_, _≤_};
+ghost use Prim.Native.Nat.{ℕ, _+_, _<_, _≤_};
 ghost use lib.ListN.{length};
 ghost use Rattle.rules.specs.Bytes.{part};
 ghost use Rattle.rules.specs.Choice.{pick};
 ghost use Rattle.rules.specs.Map.{find as has};
-ghost use Rattle.rules.specs.Room.{hashesMost};
+ghost use Rattle.rules.specs.Layout.{rowSize};
+ghost use Rattle.rules.specs.Room.{hashSize, hashesMost};
 ghost use Rattle.rules.specs.Order.{isEqual, orderBytes, orderRev, sameRev};
 ghost use Rattle.rules.specs.Replica.{Tree};
 ghost use Rattle.rules.specs.Write.{lacksParent, agree, differ};
 ghost use Rattle.tree.specs.Rows.{contentOf, meaning, nodeAt};
-ghost use Rattle.tree.specs.Table.{treeAt};
+ghost use Rattle.tree.specs.Table.{treeIn, Within};
 ghost use Rattle.writes.specs.Path.{revAt, parentAt, givesOf, InPath};
 ghost use Rattle.writes.specs.Plan.{holds, settled, noPlan, planned, planOf, Counted, CanStep, Stepped, CanPlan};
 
@@ -73,8 +79,8 @@ fn other_content(held: Kind, given: Kind) -> bool
 
 // Whether sixteen bytes of each are the same. They are compared as two numbers of eight.
 fn same_hashes(a: &[u8], p: usize, b: &[u8], q: usize) -> bool
-    requires { ⌜ (p + 16 ≤ length (now a)) × (q + 16 ≤ length (now b)) ⌝ }
-    ensures { λ r. ⌜ r ≡ isEqual (orderBytes (part p 16 (now (a .entry))) (part q 16 (now (b .entry)))) ⌝ }
+    requires { ⌜ (p + hashSize ≤ length (now a)) × (q + hashSize ≤ length (now b)) ⌝ }
+    ensures { λ r. ⌜ r ≡ isEqual (orderBytes (part p hashSize (now (a .entry))) (part q hashSize (now (b .entry)))) ⌝ }
 {
     let x = get8(a, p);
     let y = get8(b, q);
@@ -168,14 +174,14 @@ fn with_held(p: Plan, held: Row, given: Row, k: usize) -> Plan
 
 // The plan with the k-th revision. All revisions that are still to come are lower, so that only the
 // rows below this one can hold them.
-fn step(b: &[u8], base: usize, top: usize, given: Row, k: usize, p: Plan) -> Pass
-    requires { ⌜ CanStep (now b) base top p k ⌝ }
-    ensures { λ r. ⌜ Stepped (now (b .entry)) base top (meaning given) p k r ⌝ }
+fn step(b: &[u8], body: Body, given: Row, k: usize, p: Plan) -> Pass
+    requires { ⌜ CanStep (now b) body p k ⌝ }
+    ensures { λ r. ⌜ Stepped (now (b .entry)) body (meaning given) p k r ⌝ }
 {
     let rev = given.rev;
-    match find(b, base, top, rev) {
+    match find(b, body, rev) {
         Found::At(i) => {
-            let held = row_at(b, base, i);
+            let held = row_at(b, body, i);
             let plan = with_held(p, held, given, k);
             Pass { plan, top: i }
         }
@@ -189,55 +195,54 @@ fn step(b: &[u8], base: usize, top: usize, given: Row, k: usize, p: Plan) -> Pas
 // Whether the row at p is the k-th revision of the path, with the parent that the path gives it. The
 // bytes are compared where they stand: most revisions of a path that comes again are like this.
 fn is_held(b: &[u8], p: usize, number: RevNumber, path: &[u8], k: usize) -> bool
-    requires { ⌜ (p + 48 ≤ length (now b)) × InPath (now path) (number .0) k ⌝ }
+    requires { ⌜ (p + rowSize ≤ length (now b)) × InPath (now path) (number .0) k ⌝ }
     ensures { λ r. ⌜ r ≡ holds (nodeAt p (now (b .entry))) (revAt (number .0) (now (path .entry)) k) (parentAt (number .0) (now (path .entry)) k) ⌝ }
 {
-    let n = get4(b, p);
-    if n != number.0 - (k as u32) {
+    let n = row::number(b, p);
+    if n.0 != number.0 - (k as u32) {
         return false;
     }
-    let at = k * 16;
-    if !same_hashes(b, p + 4, path, at) {
+    let at = k * HASH;
+    if !same_hashes(b, p + HASH_IN, path, at) {
         return false;
     }
     let next = k + 1;
-    if next == path.len() / 16 {
+    if next == path.len() / HASH {
         return true;
     }
-    if b[p + 21] == 0 {
+    if row::known(b, p) == 0 {
         return false;
     }
-    same_hashes(b, p + 24, path, at + 16)
+    same_hashes(b, p + PARENT_HASH_IN, path, at + HASH)
 }
 
-// Whether the last row below the top is the k-th revision and the path adds nothing to it. The newest
-// also has a content, so it is left to a step.
-fn is_settled(b: &[u8], base: usize, top: usize, number: RevNumber, path: &[u8], k: usize) -> bool
-    requires { ⌜ (base + top * 48 ≤ length (now b)) × InPath (now path) (number .0) k ⌝ }
-    ensures { λ r. ⌜ r ≡ settled base top (now (b .entry)) (number .0) (now (path .entry)) k ⌝ }
+// Whether the last row is the k-th revision and the path adds nothing to it. The newest also has a
+// content, so it is left to a step.
+fn is_settled(b: &[u8], body: Body, number: RevNumber, path: &[u8], k: usize) -> bool
+    requires { ⌜ Within body (now b) × InPath (now path) (number .0) k ⌝ }
+    ensures { λ r. ⌜ r ≡ settled body (now (b .entry)) (number .0) (now (path .entry)) k ⌝ }
 {
     if k == 0 {
         return false;
     }
-    if top == 0 {
+    if body.rows == 0 {
         return false;
     }
-    is_held(b, base + (top - 1) * 48, number, path, k)
+    is_held(b, body.base + (body.rows - 1) * ROW, number, path, k)
 }
 
-// What a path would do to the document whose n rows begin at base.
+// What a path would do to the document that has these rows.
 pub(crate) fn plan_path(
     b: &[u8],
-    base: usize,
-    n: usize,
+    body: Body,
     number: RevNumber,
     path: &[u8],
     content: Content,
 ) -> Plan
-    requires { ⌜ CanPlan (now b) base n (number .0) (now path) ⌝ }
-    ensures { λ r. ⌜ r ≡ planOf (treeAt base n (now (b .entry))) (givesOf number (now (path .entry)) content) ⌝ }
+    requires { ⌜ CanPlan (now b) body (number .0) (now path) ⌝ }
+    ensures { λ r. ⌜ r ≡ planOf (treeIn body (now (b .entry))) (givesOf number (now (path .entry)) content) ⌝ }
 {
-    let count = path.len() / 16;
+    let count = path.len() / HASH;
     let mut p = Plan {
         crossed: false,
         other: false,
@@ -245,15 +250,17 @@ pub(crate) fn plan_path(
         parents: 0,
         reach: 0,
     };
-    let mut top = n;
+    let base = body.base;
+    let mut top = body.rows;
     let mut k = 0;
     while k < count {
         let at = k;
         k += 1;
-        if is_settled(b, base, top, number, path, at) {
+        let left = Body { base, rows: top };
+        if is_settled(b, left, number, path, at) {
             top -= 1;
         } else {
-            let s = step(b, base, top, given(path, number, content, at), at, p);
+            let s = step(b, left, given(path, number, content, at), at, p);
             p = s.plan;
             top = s.top;
         }

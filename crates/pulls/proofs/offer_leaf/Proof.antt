@@ -2,29 +2,33 @@
 use native.Mathlib.Omega.{arith}
 use lib.ListN.{length-take}
 use borrow.Author.Needs.{needs}
-use Rattle.tree.specs.Table.{treeAt}
 use Rattle.pulls.proofs.OfferLaws.{was-put, offer-made}
 use Rattle.pulls.proofs.offer_leaf.Statement.{statement}
 use Rattle.pulls.proofs.offer_leaf.Tie as tie
 
+-- the entry, from where the path stands in the scratch place
+abbrev entry : tie.After-put-path → tie.Start
+entry p = p .before .before .before .before .before .before
+
 put-path-requires : tie.Need-put-path-requires
-put-path-requires c κs = let f = (c .before .before .before .before .before) .pre .few in let h = (c .before .before .before .before .before) .pre .room in record { rows = (c .before .before .before .before .before) .pre .rows; room = omega arith }
+put-path-requires c κs =
+    let e = c .before .before .before .before .before in
+    let f = e .pre .few in
+    let h = e .pre .room in
+    record { rows = e .pre .rows; room = omega arith }
 
 slice-reshare-prefix-offer : tie.Need-slice-reshare-prefix-offer
 slice-reshare-prefix-offer c = search needs
 
 slice-aggregate-offer : tie.Need-slice-aggregate-offer
 slice-aggregate-offer c =
-    let a = (c .before .before .before .before .before .before .before .before .before .before) .args in
-    let h = was-put (treeAt (a .body .base) (a .body .rows) (a .source .now)) (a .rev) (a .path .now) _ _ ((c .before .before .before .before .before .before .before .before .before .before) .pre .few) ((c .before .before .before .before .before .before .before .before .before .before) .pre .room) ((c .before .before .before .before .put-path) .ensures) in
-    let e = (c .before .before .before .before .put-path) .ensures .end in
-    let f = (c .before .before .before .before .before .before .before .before .before .before) .pre .few in
-    let r = (c .before .before .before .before .before .before .before .before .before .before) .pre .room in
-    let l = h .room in
-    simp length-take (omega arith)
+    let p = c .before .before .before .before in
+    let e = entry p in
+    let put = was-put (e .pre .few) (e .pre .room) (p .put-path .ensures) in
+    simp length-take (omega (arith, put .within, put .room, e .pre .room))
 
 offer-requires : tie.Need-offer-requires
-offer-requires c κs = (c .before .before .before .before .before .before .before .before .before .before) .pre .target
+offer-requires c κs = entry (c .before .before .before .before) .pre .target
 
 same-length : tie.Need-same-length
 same-length c = search needs
@@ -34,9 +38,8 @@ same-length-2 c = search needs
 
 returns : tie.Need-returns
 returns c =
-    let a = (c .before .before .before .before .before .before .before .before .before .before .before .before .before) .args in
-    let h = was-put (treeAt (a .body .base) (a .body .rows) (a .source .now)) (a .rev) (a .path .now) _ _ ((c .before .before .before .before .before .before .before .before .before .before .before .before .before) .pre .few) ((c .before .before .before .before .before .before .before .before .before .before .before .before .before) .pre .room) ((c .before .before .before .before .before .before .before .put-path) .ensures) in
-    offer-made (a .id .now) (treeAt (a .body .base) (a .body .rows) (a .source .now)) (a .rev) (a .content) (a .target .now) (a .path .now) _ _ _ _ h ((c .before .before .offer) .ensures)
+    let p = c .before .before .before .before .before .before .before in
+    offer-made {i = entry p .args .id .now} (was-put (entry p .pre .few) (entry p .pre .room) (p .put-path .ensures)) (c .before .before .offer .ensures)
 
 pub offer-leaf-spec : {M : Type 1} → statement M
 offer-leaf-spec =

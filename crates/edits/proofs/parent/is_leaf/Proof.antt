@@ -1,14 +1,20 @@
 -- `parent::is_leaf` meets its contract. Assumes nothing.
-use mathlib.Core.Path.{sym, ap, _∙_}
+use mathlib.Core.Path.{_≡_, sym, ap, _∙_}
 use mathlib.Core.Bool.{not}
 use native.Mathlib.Omega.{arith}
 use borrow.Author.Needs.{needs}
 use Rattle.rules.specs.Write.{isNone}
 use Rattle.tree.specs.declared.row.Kind.{Kind}
+use Rattle.tree.specs.declared.table.Found.the-variants.{At}
 use Rattle.tree.specs.Rows.{contentOf}
+use Rattle.tree.specs.Table.{treeIn, placeOf}
 use Rattle.edits.proofs.ParentLaws.{at-row, leaf-by-kind, leaf-in-gap}
 use Rattle.edits.proofs.parent.is_leaf.Statement.{statement}
 use Rattle.edits.proofs.parent.is_leaf.Tie as tie
+
+-- where it was found
+place : (c : tie.After-i) → let a = c .before .before .before .before .args in placeOf 0 (a .rev) (treeIn (a .body) (a .b .now)) ≡ At (c .i .given .0 .0)
+place c = sym (c .before .before .find .ensures) ∙ c .i .given .1
 
 find-requires : tie.Need-find-requires
 find-requires c κs = search needs
@@ -17,11 +23,7 @@ enum-known-i : tie.Need-enum-known-i
 enum-known-i c = search needs
 
 kind-at-requires : tie.Need-kind-at-requires
-kind-at-requires c κs =
-    let a = (c .before .before .before .before .before) .args in
-    let g = (c .before .i) .given in
-    let l = at-row (a .base) (a .n) (a .b .now) (a .rev) (g .0 .0) (sym ((c .before .before .before .find) .ensures) ∙ g .1) in
-    omega (arith, l, (c .before .before .before .before .before) .pre .within)
+kind-at-requires c κs = omega (arith, at-row _ _ _ _ (place (c .before)), c .before .before .before .before .before .pre .within)
 
 enum-told : tie.Need-enum-told
 enum-told c = search needs
@@ -34,21 +36,16 @@ enum-told-3 c = search needs
 
 returns : tie.Need-returns
 returns c =
-    let a = (c .before .before .before .before .before .before .before .before) .args in
-    let g = (c .before .before .before .before .i) .given in
-    sym (leaf-by-kind (a .base) (a .n) (a .b .now) (a .rev) (g .0 .0) (sym ((c .before .before .before .before .before .before .find) .ensures) ∙ g .1) ∙ ap (λ (k : Kind). not (isNone (contentOf k))) (sym ((c .before .before .kind-at) .ensures) ∙ (c .enum-told) .given .1))
+    sym (leaf-by-kind _ _ _ _ (place (c .before .before .before .before))
+    ∙ ap (λ (k : Kind). not (isNone (contentOf k))) (sym (c .before .before .kind-at .ensures) ∙ c .enum-told .given .1))
 
 returns-2 : tie.Need-returns-2
 returns-2 c =
-    let a = (c .before .before .before .before .before .before .before .before) .args in
-    let g = (c .before .before .before .before .i) .given in
-    sym (leaf-by-kind (a .base) (a .n) (a .b .now) (a .rev) (g .0 .0) (sym ((c .before .before .before .before .before .before .find) .ensures) ∙ g .1) ∙ ap (λ (k : Kind). not (isNone (contentOf k))) (sym ((c .before .before .kind-at) .ensures) ∙ (c .enum-told2) .given .1))
+    sym (leaf-by-kind _ _ _ _ (place (c .before .before .before .before))
+    ∙ ap (λ (k : Kind). not (isNone (contentOf k))) (sym (c .before .before .kind-at .ensures) ∙ c .enum-told2 .given .1))
 
 returns-3 : tie.Need-returns-3
-returns-3 c =
-    let a = (c .before .before .before .before) .args in
-    let g = (c .enum-told3) .given in
-    sym (leaf-in-gap (a .base) (a .n) (a .b .now) (a .rev) (g .0 .0) (sym ((c .before .before .find) .ensures) ∙ g .1))
+returns-3 c = sym (leaf-in-gap _ _ _ (c .enum-told3 .given .0 .0) (sym (c .before .before .find .ensures) ∙ c .enum-told3 .given .1))
 
 pub is-leaf-spec : {M : Type 1} → statement M
 is-leaf-spec =

@@ -1,52 +1,25 @@
 -- `document::answer_winner` meets its contract. Assumes nothing.
-use mathlib.Core.Path.{sym, _∙_}
-use native.Mathlib.Omega.{arith}
 use borrow.Author.Needs.{needs}
-use Rattle.reads.proofs.DocumentLaws.{won-somebody, won-at, won-leaf, winner-short, winner-answers}
+use borrow.Author.Tests.{not-true, not-false}
+use Rattle.reads.proofs.DocumentLaws.{winner-none, winner-short, winner-answers}
 use Rattle.reads.proofs.document.answer_winner.Statement.{statement}
 use Rattle.reads.proofs.document.answer_winner.Tie as tie
 
-winner-at-requires : tie.Need-winner-at-requires
-winner-at-requires c κs = (c .before .before) .pre .rows
+-- the entry, from where the winner is known
+abbrev entry : tie.After-winner-of → tie.Start
+entry w = w .before .before .before
 
-enum-known-i : tie.Need-enum-known-i
-enum-known-i c = search needs
-
-enum-told : tie.Need-enum-told
-enum-told c = search needs
+winner-of-requires : tie.Need-winner-of-requires
+winner-of-requires c κs = c .before .before .pre .rows
 
 returns : tie.Need-returns
-returns c = absurd (won-somebody _ _ _ ((c .before .before .before .before .before) .pre) (sym ((c .before .before .winner-at) .ensures) ∙ (c .enum-told) .given .1))
-
-kind-at-requires : tie.Need-kind-at-requires
-kind-at-requires c κs =
-    let g = (c .before .i) .given in
-    let w = won-at _ _ _ ((c .before .before .before .before .before .before) .pre) (g .0 .0) (sym ((c .before .before .before .winner-at) .ensures) ∙ g .1) in
-    omega (arith, w .within, (c .before .before .before .before .before .before) .pre .rows .within)
-
-enum-known-content : tie.Need-enum-known-content
-enum-known-content c = search needs
-
-enum-told-2 : tie.Need-enum-told-2
-enum-told-2 c = search needs
+returns c = winner-none (c .before .before .winner-of .ensures) _ (not-true _ (c .if1 .taken))
 
 returns-2 : tie.Need-returns-2
 returns-2 c =
-    let g = (c .before .before .before .before .i) .given in
-    let w = won-at _ _ _ ((c .before .before .before .before .before .before .before .before .before) .pre) (g .0 .0) (sym ((c .before .before .before .before .before .before .winner-at) .ensures) ∙ g .1) in
-    absurd (won-leaf _ _ _ _ w (sym ((c .before .before .kind-at) .ensures) ∙ (c .enum-told2) .given .1))
-
-returns-3 : tie.Need-returns-3
-returns-3 c =
-    let g = (c .before .before .before .before .before .before .i) .given in
-    let w = won-at _ _ _ ((c .before .before .before .before .before .before .before .before .before .before .before) .pre) (g .0 .0) (sym ((c .before .before .before .before .before .before .before .before .winner-at) .ensures) ∙ g .1) in
-    winner-short _ _ _ _ w _ ((c .if1) .taken)
-
-rev-at-requires : tie.Need-rev-at-requires
-rev-at-requires c κs =
-    let g = (c .before .before .before .before .before .before .i) .given in
-    let w = won-at _ _ _ ((c .before .before .before .before .before .before .before .before .before .before .before) .pre) (g .0 .0) (sym ((c .before .before .before .before .before .before .before .before .winner-at) .ensures) ∙ g .1) in
-    omega (arith, w .within, (c .before .before .before .before .before .before .before .before .before .before .before) .pre .rows .within)
+    let f = c .before in
+    let w = f .before .before in
+    winner-short (w .winner-of .ensures) _ (entry w .pre .is) (not-false _ (f .if1 .left)) (c .if2 .taken)
 
 put-leaf-requires : tie.Need-put-leaf-requires
 put-leaf-requires c κs = search needs
@@ -54,27 +27,15 @@ put-leaf-requires c κs = search needs
 same-length : tie.Need-same-length
 same-length c = search needs
 
-returns-4 : tie.Need-returns-4
-returns-4 c =
-    let g = (c .before .before .before .before .before .before .before .before .before .before .before .i) .given in
-    let k = (c .before .before .before .before .before .before .before .content) .given in
-    let w = won-at _ _ _ ((c .before .before .before .before .before .before .before .before .before .before .before .before .before .before .before .before) .pre) (g .0 .0) (sym ((c .before .before .before .before .before .before .before .before .before .before .before .before .before .winner-at) .ensures) ∙ g .1) in
-    winner-answers _ _ _ _ w _ _ (k .0 .0) _ ((c .before .before .before .before .rev-at) .ensures) (sym ((c .before .before .before .before .before .before .before .before .before .kind-at) .ensures) ∙ k .1) ((c .before .before .before .before .before .if1) .left) ((c .before .before .put-leaf) .ensures .is)
+returns-3 : tie.Need-returns-3
+returns-3 c =
+    let put = c .before .before in
+    let g = put .before .before .before in
+    let f = g .before in
+    let w = f .before .before in
+    winner-answers (w .winner-of .ensures) _ (entry w .pre .is) (not-false _ (f .if1 .left)) (g .if2 .left) (put .put-leaf .ensures .is)
 
 pub answer-winner-spec : {M : Type 1} → statement M
 answer-winner-spec =
     tie.close
-    (tie.spec
-    winner-at-requires
-    enum-known-i
-    enum-told
-    returns
-    kind-at-requires
-    enum-known-content
-    enum-told-2
-    returns-2
-    returns-3
-    rev-at-requires
-    put-leaf-requires
-    same-length
-    returns-4)
+    (tie.spec winner-of-requires returns returns-2 put-leaf-requires same-length returns-3)

@@ -1,20 +1,17 @@
 -- `document::leaves` meets its contract. Assumes nothing.
 use borrow.Author.Needs.{needs}
-use Rattle.reads.proofs.OpenLaws.{opened-at, opened-refused}
-use Rattle.reads.proofs.DocumentLaws.{leaves-opened, leaves-refused}
+use Rattle.reads.proofs.DocumentLaws.{leaves-reads, read-opened, read-refused}
 use Rattle.reads.proofs.document.leaves.Statement.{statement}
 use Rattle.reads.proofs.document.leaves.Tie as tie
 
 rows-of-requires : tie.Need-rows-of-requires
-rows-of-requires c κs = (c .before .before .before) .pre
+rows-of-requires c κs = search needs
 
 enum-known-body : tie.Need-enum-known-body
 enum-known-body c = search needs
 
 answer-leaves-requires : tie.Need-answer-leaves-requires
-answer-leaves-requires c κs =
-    let g = (c .before .before .body) .given in
-    opened-at _ _ _ (g .0 .0) (g .1) ((c .before .before .before .before .rows-of) .ensures) .rows
+answer-leaves-requires c κs = c .before .before .before .before .rows-of .ensures .at _ (c .before .before .body .given .1) .rows
 
 enum-known-n : tie.Need-enum-known-n
 enum-known-n c = search needs
@@ -24,13 +21,11 @@ same-length c = search needs
 
 returns : tie.Need-returns
 returns c =
-    let g = (c .before .before .before .before .before .body) .given in
-    leaves-opened _ _ _ (g .0 .0) (opened-at _ _ _ (g .0 .0) (g .1) ((c .before .before .before .before .before .before .before .rows-of) .ensures)) _ _ ((c .before .before .answer-leaves) .ensures)
+    let at = c .before .before .before .before .before in
+    read-opened (leaves-reads _ _ _) (at .before .before .rows-of .ensures .at _ (at .body .given .1)) (c .before .before .answer-leaves .ensures)
 
 returns-2 : tie.Need-returns-2
-returns-2 c =
-    let g = (c .before .n) .given in
-    leaves-refused _ _ _ (g .0 .0) (opened-refused _ _ _ (g .0 .0) (g .1) ((c .before .before .before .rows-of) .ensures))
+returns-2 c = read-refused (leaves-reads _ _ _) (c .before .before .before .rows-of .ensures .refused _ (c .before .n .given .1))
 
 pub leaves-spec : {M : Type 1} → statement M
 leaves-spec =

@@ -1,20 +1,17 @@
 -- `document::path` meets its contract. Assumes nothing.
 use borrow.Author.Needs.{needs}
-use Rattle.reads.proofs.OpenLaws.{opened-at, opened-refused}
-use Rattle.reads.proofs.DocumentLaws.{path-opened, path-refused}
+use Rattle.reads.proofs.DocumentLaws.{path-reads, read-opened, read-refused}
 use Rattle.reads.proofs.document.path.Statement.{statement}
 use Rattle.reads.proofs.document.path.Tie as tie
 
 rows-of-requires : tie.Need-rows-of-requires
-rows-of-requires c κs = (c .before .before .before) .pre
+rows-of-requires c κs = search needs
 
 enum-known-body : tie.Need-enum-known-body
 enum-known-body c = search needs
 
 answer-path-requires : tie.Need-answer-path-requires
-answer-path-requires c κs =
-    let g = (c .before .before .body) .given in
-    opened-at _ _ _ (g .0 .0) (g .1) ((c .before .before .before .before .rows-of) .ensures) .rows
+answer-path-requires c κs = c .before .before .before .before .rows-of .ensures .at _ (c .before .before .body .given .1) .rows
 
 enum-known-n : tie.Need-enum-known-n
 enum-known-n c = search needs
@@ -24,13 +21,11 @@ same-length c = search needs
 
 returns : tie.Need-returns
 returns c =
-    let g = (c .before .before .before .before .before .body) .given in
-    path-opened _ _ _ (g .0 .0) (opened-at _ _ _ (g .0 .0) (g .1) ((c .before .before .before .before .before .before .before .rows-of) .ensures)) _ _ _ ((c .before .before .answer-path) .ensures)
+    let at = c .before .before .before .before .before in
+    read-opened (path-reads _ _ _ _) (at .before .before .rows-of .ensures .at _ (at .body .given .1)) (c .before .before .answer-path .ensures)
 
 returns-2 : tie.Need-returns-2
-returns-2 c =
-    let g = (c .before .n) .given in
-    path-refused _ _ _ (g .0 .0) (opened-refused _ _ _ (g .0 .0) (g .1) ((c .before .before .before .rows-of) .ensures)) _
+returns-2 c = read-refused (path-reads _ _ _ _) (c .before .before .before .rows-of .ensures .refused _ (c .before .n .given .1))
 
 pub path-spec : {M : Type 1} → statement M
 path-spec =

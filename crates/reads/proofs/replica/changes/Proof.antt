@@ -16,19 +16,21 @@ enum-known-d c = search needs
 
 answer-change-requires : tie.Need-answer-change-requires
 answer-change-requires c κs =
-    let g = (c .before .before .d) .given in
-    has-tree _ _ ((c .before .before .before .before .before .before .before) .pre) (next-within _ _ _ _ _ (g .1) ((c .before .before .before .before .next-after) .ensures))
+    let at = c .before .before in
+    let n = at .before .before in
+    has-tree _ _ (n .before .before .before .pre) (next-within _ _ (at .d .given .1) (n .next-after .ensures))
 
 returns : tie.Need-returns
-returns c = changes-none _ _ _ _ ((c .enum-told) .given .1) ((c .before .before .next-after) .ensures)
+returns c = changes-none _ _ _ (c .enum-told .given .1) (c .before .before .next-after .ensures)
 
 same-length : tie.Need-same-length
 same-length c = search needs
 
 returns-2 : tie.Need-returns-2
 returns-2 c =
-    let g = (c .before .before .before .before .before .d) .given in
-    changes-next _ _ _ _ _ _ _ _ (g .1) ((c .before .before .before .before .before .before .before .next-after) .ensures) ((c .before .before .answer-change) .ensures)
+    let changed = c .before .before in
+    let at = changed .before .before .before in
+    changes-next _ _ _ (at .d .given .1) (at .before .before .next-after .ensures) (changed .answer-change .ensures)
 
 pub changes-spec : {M : Type 1} → statement M
 changes-spec =

@@ -1,43 +1,52 @@
+-- `form::form` meets its contract: the tests that have failed stand before the one that holds. Assumes nothing.
+use mathlib.Core.Path.{_≡_, refl, sym, ap, _∙_}
+use mathlib.Core.Bool.{false}
 use borrow.Author.Needs.{needs}
-use Rattle.writes.proofs.FormLaws.{form-1, form-2, form-3, form-clear}
-use Rattle.writes.specs.Verdict.{verdictOf}
+use Rattle.rules.specs.declared.Content.{Content}
+use Rattle.rules.specs.Write.{Write, badId, badPath}
 use Rattle.writes.specs.Path.{writeOf}
-use mathlib.Core.Path.{sym, ap, _∙_}
+use Rattle.writes.specs.Verdict.{verdictOf}
+use Rattle.writes.proofs.FormLaws.{form-1, form-2, form-3, form-clear}
 use Rattle.writes.proofs.form.form.Statement.{statement}
 use Rattle.writes.proofs.form.form.Tie as tie
-use Rattle.writes.proofs.form.form.Reads as reads
-use Rattle.writes.proofs.form.form.Lts as lts
-use Rattle.writes.proofs.form.bad_id.Reads as bad-id-reads
-use Rattle.writes.proofs.form.bad_path.Reads as bad-path-reads
-use Rattle.writes.proofs.form.low_number.Reads as low-number-reads
 
--- src/form.rt:54:8
+abbrev given : tie.Start → Content → Write
+given c x = let a = c .args in writeOf (a .id .now) (a .number) (a .path .now) x
+
+-- 1 does not hold
+id-ok : (c : tie.Else1) → badId (c .before .before .before .before .args .id .now) ≡ false
+id-ok c = sym (c .before .bad-id .ensures) ∙ c .if1 .left
+
+-- nor does 2
+path-ok : (c : tie.Else2) (x : Content) → badPath (given (c .before .before .before .before .before .before) x) ≡ false
+path-ok c x = sym (c .before .bad-path .ensures (given (c .before .before .before .before .before .before) x) refl) ∙ c .if2 .left
+
 bad-id-requires : tie.Need-bad-id-requires
 bad-id-requires c κs = search needs
 
--- src/form.rt:55:9
 returns : tie.Need-returns
-returns c = λ x. ap verdictOf (sym (form-1 (writeOf ((c .before .before .before .before) .args .id .now) ((c .before .before .before .before) .args .number) ((c .before .before .before .before) .args .path .now) x) (sym ((c .before .bad-id) .ensures) ∙ (c .if1) .taken)))
+returns c = λ x. ap verdictOf (sym (form-1 (given (c .before .before .before .before) x) (sym (c .before .bad-id .ensures) ∙ c .if1 .taken)))
 
--- src/form.rt:57:8
 bad-path-requires : tie.Need-bad-path-requires
 bad-path-requires c κs = search needs
 
--- src/form.rt:58:9
 returns-2 : tie.Need-returns-2
-returns-2 c = λ x. ap verdictOf (sym (form-2 (writeOf ((c .before .before .before .before .before .before) .args .id .now) ((c .before .before .before .before .before .before) .args .number) ((c .before .before .before .before .before .before) .args .path .now) x) (sym ((c .before .before .before .bad-id) .ensures) ∙ (c .before .before .if1) .left) (sym ((c .before .bad-path) .ensures) ∙ (c .if2) .taken)))
+returns-2 c = λ x.
+    let w = given (c .before .before .before .before .before .before) x in
+    ap verdictOf (sym (form-2 w (id-ok (c .before .before)) (sym (c .before .bad-path .ensures w refl) ∙ c .if2 .taken)))
 
--- src/form.rt:60:8
 low-number-requires : tie.Need-low-number-requires
 low-number-requires c κs = search needs
 
--- src/form.rt:61:9
 returns-3 : tie.Need-returns-3
-returns-3 c = λ x. ap verdictOf (sym (form-3 (writeOf ((c .before .before .before .before .before .before .before .before) .args .id .now) ((c .before .before .before .before .before .before .before .before) .args .number) ((c .before .before .before .before .before .before .before .before) .args .path .now) x) (sym ((c .before .before .before .before .before .bad-id) .ensures) ∙ (c .before .before .before .before .if1) .left) (sym ((c .before .before .before .bad-path) .ensures) ∙ (c .before .before .if2) .left) (sym ((c .before .low-number) .ensures) ∙ (c .if3) .taken)))
+returns-3 c = λ x.
+    let w = given (c .before .before .before .before .before .before .before .before) x in
+    ap verdictOf (sym (form-3 w (id-ok (c .before .before .before .before)) (path-ok (c .before .before) x) (sym (c .before .low-number .ensures w refl refl) ∙ c .if3 .taken)))
 
--- src/form.rt:51:1
 returns-4 : tie.Need-returns-4
-returns-4 c = λ x. ap verdictOf (sym (form-clear (writeOf ((c .before .before .before .before .before .before .before .before) .args .id .now) ((c .before .before .before .before .before .before .before .before) .args .number) ((c .before .before .before .before .before .before .before .before) .args .path .now) x) (sym ((c .before .before .before .before .before .bad-id) .ensures) ∙ (c .before .before .before .before .if1) .left) (sym ((c .before .before .before .bad-path) .ensures) ∙ (c .before .before .if2) .left) (sym ((c .before .low-number) .ensures) ∙ (c .if3) .left)))
+returns-4 c = λ x.
+    let w = given (c .before .before .before .before .before .before .before .before) x in
+    ap verdictOf (sym (form-clear w (id-ok (c .before .before .before .before)) (path-ok (c .before .before) x) (sym (c .before .low-number .ensures w refl refl) ∙ c .if3 .left)))
 
 pub form-spec : {M : Type 1} → statement M
 form-spec =

@@ -1,16 +1,14 @@
-use borrow.Author.Needs.{needs}
+-- `plan::lacks_parent` meets its contract. Assumes nothing.
 use Rattle.writes.proofs.PassLaws.{lacks-held, lacks-unknown}
 use mathlib.Core.Path.{sym}
 use Rattle.writes.proofs.plan.lacks_parent.Statement.{statement}
 use Rattle.writes.proofs.plan.lacks_parent.Tie as tie
-use Rattle.writes.proofs.plan.lacks_parent.Reads as reads
-use Rattle.writes.proofs.plan.lacks_parent.Lts as lts
 
 returns : tie.Need-returns
-returns c = sym (lacks-held ((c .before) .args .held) ((c .before) .args .given) ((c .if1) .taken))
+returns c = sym (lacks-held (c .before .args .held) (c .before .args .given) (c .if1 .taken))
 
 returns-2 : tie.Need-returns-2
-returns-2 c = sym (lacks-unknown ((c .before) .args .held) ((c .before) .args .given) ((c .if1) .left))
+returns-2 c = sym (lacks-unknown (c .before .args .held) (c .before .args .given) (c .if1 .left))
 
 pub lacks-parent-spec : {M : Type 1} → statement M
 lacks-parent-spec = tie.close (tie.spec returns returns-2)

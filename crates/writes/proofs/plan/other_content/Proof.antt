@@ -1,11 +1,9 @@
+-- `plan::other_content` meets its contract. Assumes nothing.
 use borrow.Author.Needs.{needs}
 use mathlib.Core.Bool.{not}
 use mathlib.Core.Path.{ap}
 use Rattle.writes.proofs.plan.other_content.Statement.{statement}
 use Rattle.writes.proofs.plan.other_content.Tie as tie
-use Rattle.writes.proofs.plan.other_content.Reads as reads
-use Rattle.writes.proofs.plan.other_content.Lts as lts
-use Rattle.writes.proofs.plan.same_content.Reads as same-content-reads
 
 enum-told : tie.Need-enum-told
 enum-told c = search needs
@@ -29,7 +27,7 @@ returns-2 : tie.Need-returns-2
 returns-2 c = search needs
 
 returns-3 : tie.Need-returns-3
-returns-3 c = rw ((c .before .before .before .before .before .held) .given .1, (c .before .before .given) .given .1) (ap not ((c .same-content) .ensures))
+returns-3 c = rw (c .before .before .before .before .before .held .given .1, c .before .before .given .given .1) (ap not (c .same-content .ensures))
 
 pub other-content-spec : {M : Type 1} → statement M
 other-content-spec =

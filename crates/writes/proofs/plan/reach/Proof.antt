@@ -1,8 +1,7 @@
+-- `plan::reach` meets its contract. Assumes nothing.
 use borrow.Author.Needs.{needs}
 use Rattle.writes.proofs.plan.reach.Statement.{statement}
 use Rattle.writes.proofs.plan.reach.Tie as tie
-use Rattle.writes.proofs.plan.reach.Reads as reads
-use Rattle.writes.proofs.plan.reach.Lts as lts
 
 add-result : tie.Need-add-result
 add-result c = search needs

@@ -1,8 +1,7 @@
+-- `plan::same_content` meets its contract. Assumes nothing.
 use borrow.Author.Needs.{needs}
 use Rattle.writes.proofs.plan.same_content.Statement.{statement}
 use Rattle.writes.proofs.plan.same_content.Tie as tie
-use Rattle.writes.proofs.plan.same_content.Reads as reads
-use Rattle.writes.proofs.plan.same_content.Lts as lts
 
 enum-known-a : tie.Need-enum-known-a
 enum-known-a c = search needs
@@ -23,7 +22,7 @@ enum-told-4 : tie.Need-enum-told-4
 enum-told-4 c = search needs
 
 returns : tie.Need-returns
-returns c = rw ((c .before .before .before .before .a) .given .1, (c .before .b) .given .1)
+returns c = rw (c .before .before .before .before .a .given .1, c .before .b .given .1)
 
 returns-2 : tie.Need-returns-2
 returns-2 c = search needs

@@ -1,10 +1,8 @@
+-- `plan::with_new` meets its contract. Assumes nothing.
 use borrow.Author.Needs.{needs}
 use Rattle.writes.proofs.PassLaws.{with-new}
 use Rattle.writes.proofs.plan.with_new.Statement.{statement}
 use Rattle.writes.proofs.plan.with_new.Tie as tie
-use Rattle.writes.proofs.plan.with_new.Reads as reads
-use Rattle.writes.proofs.plan.with_new.Lts as lts
-use Rattle.writes.proofs.plan.one_if.Reads as one-if-reads
 
 add-t4 : tie.Need-add-t4
 add-t4 c = search needs
@@ -19,7 +17,9 @@ add-t7 : tie.Need-add-t7
 add-t7 c = search needs
 
 returns : tie.Need-returns
-returns c = λ t e. with-new t ((c .before .before .before) .args .k) ((c .before .before .before) .args .p) ((c .before .before .before) .args .given) ((c .before .one-if) .result) e ((c .before .one-if) .ensures .0)
+returns c = λ t e.
+    let a = c .before .before .before .args in
+    with-new t (a .k) (a .p) (a .given) (c .before .one-if .result) e (c .before .one-if .ensures .0)
 
 pub with-new-spec : {M : Type 1} → statement M
 with-new-spec = tie.close (tie.spec add-t4 one-if-requires add-t6 add-t7 returns)

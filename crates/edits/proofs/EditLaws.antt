@@ -1,32 +1,30 @@
 -- An edit whose own refusals don't hold is the path write of its revision and parent: the form is good, and 4 and 5 never hold. Assumes nothing.
-use mathlib.Core.Path.{_≡_, refl, sym, ap, ap₂, _∙_, subst}
-use mathlib.Core.Bool.{Bool, true, false, not, _&&_, _||_}
+use mathlib.Core.Path.{_≡_, refl, ap, ap₂, _∙_}
+use mathlib.Core.Bool.{Bool, true, false, not, _||_}
 use mathlib.Core.List.{List, [], _∷_, _++_, append-nil}
 use mathlib.Core.Option.{Option, none, some}
-use Prim.Native.Nat.{ℕ, zero, suc, pred, _+_, _-_, _*_, _/_, _%_, _≤_, _<_}
+use Prim.Native.Nat.{ℕ, suc, _+_, _-_, _*_, _/_, _%_, _≤_}
 use native.Mathlib.Omega.{arith}
-use lib.Dec.{eqb, leb, ltb}
-use lib.ListN.{length, take, drop, length-append}
+use lib.Dec.{eqb, ltb}
+use lib.ListN.{length, take, length-append}
 use lib.Seq.{take-at, drop-at, take-all}
 use borrow.Author.Tests.{le-ltb, eq-eqb, ne-eqb}
-use Rattle.rules.specs.declared.Content.{Content}
-use Rattle.rules.specs.declared.Edited.{Edited}
 use Rattle.rules.specs.declared.Edited.the-variants as edited
-use Rattle.rules.specs.declared.Outcome.the-variants.{Changed, Unchanged}
+use Rattle.rules.specs.declared.Outcome.the-variants.{Changed}
 use Rattle.rules.specs.declared.Refusal.{Refusal}
-use Rattle.rules.specs.declared.Refusal.the-variants.{BadId, BadPath, LowNumber, OtherParent, OtherContent, NotAParent, LastNumber, AlreadyKnown}
 use Rattle.rules.specs.declared.Revision.{Revision}
-use Rattle.rules.specs.declared.Written.{Written}
 use Rattle.rules.specs.declared.Written.the-variants as written
 use Rattle.rules.specs.Bytes.{pieces}
-use Rattle.rules.specs.Choice.{pick, any, maybe, firstThat}
+use Rattle.rules.specs.Choice.{any, maybe, firstThat}
 use Rattle.rules.specs.Edit.{Edit, parentOf, parentRule, newNumber, asWrite, alreadyKnown, lastNumber, editRefusals, edit}
 use Rattle.rules.specs.Map.{find}
 use Rattle.rules.specs.Order.{orderRev, sameRev}
 use Rattle.rules.specs.Replica.{Hash, revision, Node, Tree, Replica, treeOf}
 use Rattle.rules.specs.Room.{hashSize, hashesMost}
-use Rattle.rules.specs.Write.{Write, hashes, along, gives, added, isNone, lacksParent, isAddition, adds, badId, badPath, lowNumber, differ, otherParent, agree, otherContent, roomRefusals, writeRefusals, settle, write}
-use Rattle.writes.specs.Edit.{answerOf}
+use Rattle.rules.specs.Write.{Write, hashes, along, gives, added, isNone, lacksParent, isAddition, adds, badId, badPath}
+use Rattle.rules.specs.Write.{lowNumber, differ, otherParent, agree, otherContent, formRefusals, roomRefusals, writeRefusals, settle, write}
+use Rattle.rules.proofs.GivenLaws.{adds-any}
+use Rattle.edits.specs.Edit.{answerOf}
 
 -- ---- what it gives
 
@@ -36,7 +34,7 @@ GoodParent none = Unit {0}
 GoodParent (some p) = (length (p .hash) ≡ hashSize) × (1 ≤ p .number .0)
 
 -- the parent, as the path gives it
-abbrev pub parentEntry : Option Revision → List (Revision × Node)
+abbrev parentEntry : Option Revision → List (Revision × Node)
 parentEntry none = []
 parentEntry (some p) = (p, record { parent = none; content = none }) ∷ []
 
@@ -71,11 +69,11 @@ module _ (r : Replica) (e : Edit) (size : length (e .hash) ≡ hashSize) (good :
   abbrev o : Option Revision
   o = parentOf r e
 
-  pub edit-hashes : hashes w ≡ hashesOf (e .hash) o
+  edit-hashes : hashes w ≡ hashesOf (e .hash) o
   unfolding hashes asWrite
   edit-hashes = cut (e .hash) o size good
 
-  pub edit-gives :
+  edit-gives :
       gives w ≡ (revision (newNumber r e .0) (e .hash), record { parent = o; content = some (e .content) }) ∷ parentEntry o
   unfolding gives along asWrite newNumber
   edit-gives = ap (λ (hs : List Hash). along (newNumber r e .0) hs (some (e .content))) edit-hashes ∙ go o
@@ -101,7 +99,7 @@ module _ (r : Replica) (e : Edit) (size : length (e .hash) ≡ hashSize) (good :
   counted none g = (omega arith, omega arith, omega arith)
   counted (some p) g = let z = g .1 in (omega arith, omega arith, omega arith)
 
-  pub edit-path : badPath w ≡ false
+  edit-path : badPath w ≡ false
   unfolding badPath
   edit-path =
       let c = counted o good in
@@ -112,41 +110,30 @@ module _ (r : Replica) (e : Edit) (size : length (e .hash) ≡ hashSize) (good :
       let b : ltb hashesMost (length (hashes w)) ≡ false = le-ltb hashesMost (length (hashes w)) (let q = c .1 in omega arith) in
       rw (m, a, b)
 
-  pub edit-number : lowNumber w ≡ false
+  edit-number : lowNumber w ≡ false
   unfolding lowNumber asWrite newNumber
   edit-number =
       let c = counted o good in
       let l : length (hashes w) ≡ length (hashesOf (e .hash) o) = ap length edit-hashes in
       le-ltb (w .number .0) (length (hashes w)) (let q = c .2 in omega arith)
 
+  pub edit-form : badId (e .id) ≡ false → firstThat (formRefusals w) ≡ none
+  unfolding firstThat asWrite
+  edit-form i = rw (i, edit-path, edit-number)
+
   -- ---- 4 and 5, and what is added
 
   abbrev t : Tree
   t = treeOf r (w .id)
 
-  parent-not-other : (p : Revision) → otherParent t (p, record { parent = none; content = none }) ≡ false
-  unfolding otherParent
-  parent-not-other p = go (find orderRev p t)
+  -- where nothing is given, nothing differs
+  none-given : {A : Type 0} (same : A → A → Bool) (f : Node → Option A) (n : Option Node) → maybe false (λ m. differ same (f m) none) n ≡ false
+  none-given same f none = refl
+  none-given same f (some n) = by (f n)
     where
-      by : (q : Option Revision) → differ sameRev q none ≡ false
+      by : (q : Option _) → differ same q none ≡ false
       by none = refl
       by (some a) = refl
-
-      go : (n : Option Node) → maybe false (λ n. differ sameRev (n .parent) none) n ≡ false
-      go none = refl
-      go (some n) = by (n .parent)
-
-  content-not-other : (p : Revision) → otherContent t (p, record { parent = none; content = none }) ≡ false
-  unfolding otherContent
-  content-not-other p = go (find orderRev p t)
-    where
-      by : (q : Option Content) → differ agree q none ≡ false
-      by none = refl
-      by (some a) = refl
-
-      go : (n : Option Node) → maybe false (λ n. differ agree (n .content) none) n ≡ false
-      go none = refl
-      go (some n) = by (n .content)
 
   -- the new revision is not known
   module _ (new : alreadyKnown r e ≡ false) where
@@ -169,17 +156,17 @@ module _ (r : Replica) (e : Edit) (size : length (e .hash) ≡ hashSize) (good :
         go none = refl
         go (some q) = ap (λ (x : Bool). x || false) (b q)
 
-    pub edit-not-crossed : any (otherParent t) (gives w) ≡ false
+    edit-not-crossed : any (otherParent t) (gives w) ≡ false
     unfolding otherParent
-    edit-not-crossed = any-entry (otherParent t) (ap (maybe false (λ (n : Node). differ sameRev (n .parent) (g .1 .parent))) unknown) parent-not-other
+    edit-not-crossed = any-entry (otherParent t) (ap (maybe false (λ (n : Node). differ sameRev (n .parent) (g .1 .parent))) unknown) (λ p. none-given sameRev (λ n. n .parent) (find orderRev p t))
 
-    pub edit-not-other : any (otherContent t) (gives w) ≡ false
+    edit-not-other : any (otherContent t) (gives w) ≡ false
     unfolding otherContent
-    edit-not-other = any-entry (otherContent t) (ap (maybe false (λ (n : Node). differ agree (n .content) (g .1 .content))) unknown) content-not-other
+    edit-not-other = any-entry (otherContent t) (ap (maybe false (λ (n : Node). differ agree (n .content) (g .1 .content))) unknown) (λ p. none-given agree (λ n. n .content) (find orderRev p t))
 
-    pub edit-adds : adds r w ≡ true
-    unfolding adds any isAddition
-    edit-adds = ap (any (isAddition t)) edit-gives ∙ ap (λ (x : Option Node). maybe true (λ n. lacksParent (g .1 .parent) (n .parent)) x || any (isAddition t) (parentEntry o)) unknown
+    edit-adds : adds r w ≡ true
+    unfolding any isAddition
+    edit-adds = adds-any r w ∙ (ap (any (isAddition t)) edit-gives ∙ ap (λ (x : Option Node). maybe true (λ n. lacksParent (g .1 .parent) (n .parent)) x || any (isAddition t) (parentEntry o)) unknown)
 
     -- ---- the edit and the write
 
