@@ -1,16 +1,12 @@
 // Check: reads an image from standard input and writes its report to standard output. It opens no file
 // and changes none. The report's text is promised by the crate report; only reading and writing are not.
+use layout::IMAGE_MOST;
 use libc::EINTR;
 use libc::STDERR_FILENO;
 use libc::STDIN_FILENO;
 use libc::STDOUT_FILENO;
 use report::REPORT_MOST;
 use report::put_report;
-use rules::DOCUMENTS;
-use rules::ENTRY;
-use rules::HEAD;
-use rules::REVISIONS;
-use rules::ROW;
 ghost use mathlib.Core.Path.{_≡_};
 ghost use Prim.Native.Nat.{_≤_};
 ghost use lib.ListN.{length};
@@ -18,7 +14,7 @@ ghost use Rattle.rules.specs.Report.{inputMost};
 ghost use Rattle.check_main.specs.Input.{Fits, Within};
 
 // One byte more than the largest image has, so that a longer input is seen to be too long.
-const INPUT: usize = HEAD + ENTRY * DOCUMENTS + ROW * REVISIONS + 1;
+const INPUT: usize = IMAGE_MOST + 1;
 
 // How often a read that a signal interrupted is tried again.
 const TRIES: usize = 1000;

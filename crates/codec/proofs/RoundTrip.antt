@@ -8,10 +8,7 @@ use mathlib.Core.Option.{Option, none, some}
 use Prim.Native.Nat.{ℕ, _≤_, _<_}
 use native.Mathlib.Nat.{zero-add}
 use native.Mathlib.Omega.{arith}
-use contract.Lifetimes.{Lfts}
-use denote.Triple.Clauses.{AtExit}
 use borrow.Author.Tests.{ltb-true, ltb-false}
-use borrow.Fn.Kinds.{Dens, endedOf}
 use lib.Dec.{ltb}
 use lib.ListN.{length, take, drop}
 use lib.Seq.{take-at}
@@ -22,37 +19,21 @@ use Rattle.rules.specs.declared.Loaded.{Loaded}
 use Rattle.rules.specs.declared.Loaded.the-variants.{Accepted, Refused}
 use Rattle.rules.specs.declared.Refusal.the-variants.{ShortBuffer}
 use Rattle.rules.specs.Choice.{firstThat}
-use Rattle.rules.specs.Image.{image, save, faults, replicaIn}
+use Rattle.rules.specs.Faults.{faults}
+use Rattle.rules.specs.Image.{image, save, replicaIn}
 use Rattle.rules.specs.Outcome.{Does}
 use Rattle.rules.specs.Replica.{Replica, IsReplica}
 use Rattle.rules.proofs.OutcomeLaws.{does-one}
-use Rattle.images.proofs.Rules.{NoneHolds, none-holds, holds-none, IsFirst, first-is, is-first}
-use Rattle.images.proofs.Theorems.{loads, image-loads, image-injective, image-most}
+use Rattle.rules.proofs.ChoiceLaws.{NoneHolds, none-holds, holds-none, IsFirst, first-is, is-first}
+use Rattle.images.proofs.Theorems.{loads, image-loads, image-injective}
 use Rattle.octets.specs.Splice.{splice}
 use Rattle.store.specs.Storage.{stored, replicaOf, IsStored}
 use Rattle.codec.specs.Codec.{loadBytes, Loads}
 use Rattle.codec.proofs.SaveLaws.{save-short, save-written}
-use Rattle.codec.proofs.load.Kinds as load-kinds
-use Rattle.codec.proofs.load.Reads as load-reads
-use Rattle.codec.proofs.save.Kinds as save-kinds
-use Rattle.codec.proofs.save.Reads as save-reads
 
--- ---- the promises
-
--- saving the replica in b into out answered so, and left `after` there
+-- saving the replica in b into out answered so, and left `after` there: what save promises
 pub record Saves (b out : List ℕ) (answer : Answered) (after : List ℕ) : Type 0 where
   pub does : Does (save (replicaOf b) out) answer after
-
--- what a caller of each learns is what the theorems below ask for
-pub load-promises : (κs : Lfts 2) (a : Dens κs load-kinds.ps) (x : Loaded) (s : AtExit (endedOf 2 load-kinds.ps load-kinds.r) κs)
-    → load-reads.Learnt κs a x s
-    → Loads (a .0 .now) (a .1 .0 .now) x (s .0 .now)
-load-promises κs a x s p = p
-
-pub save-promises : (κs : Lfts 2) (a : Dens κs save-kinds.ps) (x : Answered) (s : AtExit (endedOf 2 save-kinds.ps save-kinds.r) κs)
-    → save-reads.Learnt κs a x s
-    → Saves (a .0 .now) (a .1 .0 .now) x (s .1 .0 .now)
-save-promises κs a x s p = record { does = p }
 
 -- ---- what a save leaves
 
@@ -66,11 +47,6 @@ module _ {b out after : List ℕ} {answer : Answered} (k : Saves b out answer af
 
   pub save-refuses : length out < length (image (replicaOf b)) → (answer ≡ answered.Refused ShortBuffer) × (after ≡ out)
   save-refuses h = does-one (k .does) (save-short (replicaOf b) out (length (image (replicaOf b))) refl h)
-
--- "The largest image has 26,000 bytes": a buffer of as many is never too short
-pub save-always : {b out after : List ℕ} {answer : Answered} → IsStored b → Saves b out answer after → 26000 ≤ length out
-    → answer ≡ answered.Count (length (image (replicaOf b)))
-save-always {b} i k e = let m = image-most (replicaOf b) (i .replica) in save-fits k (omega arith) .0
 
 -- what was counted was written
 pub save-writes : {b out after : List ℕ} {n : ℕ} → Saves b out (answered.Count n) after → take n after ≡ image (replicaOf b)
@@ -125,7 +101,7 @@ module _ {before s after : List ℕ} {answer : Loaded} (k : Loads before s answe
     where
       go : (o : Option (Fault × ℕ)) → firstThat (faults s) ≡ o → after ≡ before
       go none e = absurd (n (by none e .answers))
-      go (some f) e = by (some f) e .leaves
+      go (some f) e = by (some f) e .left
 
   -- an accepted image's replica stands in the buffer, and its image is the one that was loaded
   pub load-accepts : answer ≡ Accepted → IsStored after × (replicaOf after ≡ replicaIn s) × (image (replicaOf after) ≡ s)
@@ -145,7 +121,7 @@ saved-loads {b} {out} {saved} {before} {after} {n} i k l =
     let s : take n saved ≡ image r = save-writes k in
     let h = image-loads r (i .replica) in
     let d = by l none (ap (λ (x : List ℕ). firstThat (faults x)) s ∙ h .0) in
-    (d .answers, d .leaves ∙ (ap stored (ap replicaIn s ∙ h .1) ∙ sym (i .same)))
+    (d .answers, d .left ∙ (ap stored (ap replicaIn s ∙ h .1) ∙ sym (i .same)))
 
 -- ---- loaded, then saved
 

@@ -12,17 +12,19 @@ use Rattle.rules.specs.declared.Loaded.{Loaded}
 use Rattle.rules.specs.declared.Loaded.the-variants.{Accepted, Refused}
 use Rattle.rules.specs.Bytes.{be, value, valueFrom, part, join, Bytes}
 use Rattle.rules.specs.Choice.{firstThat}
-use Rattle.rules.specs.Image.{headBytes, contentsBytes, bodyBytes, image, faults, replicaIn}
+use Rattle.rules.specs.Faults.{faults}
+use Rattle.rules.specs.Image.{headBytes, contentsBytes, bodyBytes, image, replicaIn}
 use Rattle.rules.specs.Map.{Map}
 use Rattle.rules.specs.Replica.{Id, Document, Replica, revisionsHeld, IsReplica}
 use Rattle.rules.specs.Room.{documentsMost, revisionsMost}
+use Rattle.rules.specs.Layout.{headOf, entrySize, rowSize, documentsAt, headSize}
 use Rattle.images.proofs.Theorems.{loads, refuses, loaded-is-replica, image-length}
 use Rattle.octets.specs.Splice.{splice}
 use Rattle.octets.proofs.SpliceLaws.{splice-whole, splice-past, splice-in}
 use Rattle.store.specs.Storage.{contentsRoom, rowsRoom, rowsPlace, storeSize, filled, storedHead, storedEntries, storedRows, stored, replicaOf, Storable, IsStored}
 use Rattle.store.proofs.StoredLaws.{length-head, length-filled, size-entries, size-rows, stored-back}
 use Rattle.store.proofs.FitLaws.{replica-fits}
-use Rattle.codec.specs.Codec.{moved, laidOut, Loads}
+use Rattle.codec.specs.Codec.{headMiddle, moved, laidOut, Loads}
 use Rattle.codec.proofs.MoveLaws.{contents-entries, stored-entries, moved-entries, body-rows}
 
 pub bytes-all : (s : List ℕ) → ((i : ℕ) → getD s i 0 < 256) → Bytes s
@@ -66,16 +68,16 @@ zeros-three a b c =
 -- ---- the parts of an image
 
 module _ (d r q : ℕ) (T : List ℕ) where
-  head-documents : d ≤ documentsMost → value (part 2 2 (headBytes d r q ++ T)) ≡ d
-  unfolding value valueFrom part headBytes be
+  head-documents : d ≤ documentsMost → headOf (headBytes d r q ++ T) .documents ≡ d
+  unfolding headOf value valueFrom part headBytes be
   head-documents h = omega arith
 
   -- a head without edition and total
-  head-taken : (Z : List ℕ) → splice (zeros 16 ++ Z) 2 (part 2 10 (headBytes d r q ++ T)) ≡ storedHead d r q ++ Z
+  head-taken : (Z : List ℕ) → splice (zeros headSize ++ Z) documentsAt (part documentsAt headMiddle (headBytes d r q ++ T)) ≡ storedHead d r q ++ Z
   unfolding splice part headBytes storedHead be
   head-taken Z = refl
 
-length-headBytes : (d r q : ℕ) → length (headBytes d r q) ≡ 16
+length-headBytes : (d r q : ℕ) → length (headBytes d r q) ≡ headSize
 unfolding headBytes be
 length-headBytes d r q = refl
 
@@ -96,7 +98,7 @@ module _ (r : Replica) (i : IsReplica r) where
   head = headBytes d n (r .seq .0)
 
   abbrev contents : List ℕ
-  contents = contentsBytes (16 + 44 * d) ds
+  contents = contentsBytes (headSize + entrySize * d) ds
 
   abbrev body : List ℕ
   body = bodyBytes ds
@@ -105,66 +107,67 @@ module _ (r : Replica) (i : IsReplica r) where
   unfolding image
   image-parts = refl
 
-  length-body : length body ≡ 48 * n
+  length-body : length body ≡ rowSize * n
   length-body = let a = size-rows r fits in let b = ap length (body-rows ds) in omega arith
 
-  length-contents : length contents ≡ 44 * d
+  length-contents : length contents ≡ entrySize * d
   length-contents =
-      let l : length (head ++ (contents ++ body)) ≡ 16 + 44 * d + 48 * n = sym (ap length image-parts) ∙ image-length r i in
+      let l : length (head ++ (contents ++ body)) ≡ headSize + entrySize * d + rowSize * n = sym (ap length image-parts) ∙ image-length r i in
       let a : length (head ++ (contents ++ body)) ≡ length head + length (contents ++ body) = length-append head (contents ++ body) in
       let b : length (contents ++ body) ≡ length contents + length body = length-append contents body in
-      let c : length head ≡ 16 = length-headBytes d n (r .seq .0) in
+      let c : length head ≡ headSize = length-headBytes d n (r .seq .0) in
       let e = length-body in
       omega arith
 
-  documents-is : value (part 2 2 (image r)) ≡ d
-  documents-is = ap (λ (s : List ℕ). value (part 2 2 s)) image-parts ∙ head-documents d n (r .seq .0) (contents ++ body) (i .documents-most)
+  documents-is : headOf (image r) .documents ≡ d
+  documents-is = ap (λ (s : List ℕ). headOf s .documents) image-parts ∙ head-documents d n (r .seq .0) (contents ++ body) (i .documents-most)
 
-  entries-taken : moved 0 0 d 16 (image r) ≡ join (storedEntries ds)
+  entries-taken : moved 0 0 d headSize (image r) ≡ join (storedEntries ds)
   entries-taken =
-      ap (moved 0 0 d 16) (image-parts ∙ ap (λ (l : List ℕ). head ++ (l ++ body)) (contents-entries (16 + 44 * d) ds))
-      ∙ (moved-entries 0 0 48 (16 + 44 * d) ds head body 16 (length-headBytes d n (r .seq .0)) (fits .documents) (i .revisions-most)
+      ap (moved 0 0 d headSize) (image-parts ∙ ap (λ (l : List ℕ). head ++ (l ++ body)) (contents-entries (headSize + entrySize * d) ds))
+      ∙ (moved-entries 0 0 rowSize (headSize + entrySize * d) ds head body headSize (length-headBytes d n (r .seq .0)) (fits .documents) (i .revisions-most)
       ∙ sym (stored-entries ds))
 
-  rows-taken : (p : ℕ) → p ≡ 16 + 44 * d → drop p (image r) ≡ join (storedRows ds)
+  rows-taken : (p : ℕ) → p ≡ headSize + entrySize * d → drop p (image r) ≡ join (storedRows ds)
   rows-taken p e =
       let c : length (head ++ contents) ≡ p =
       length-append head contents ∙ (let a = length-headBytes d n (r .seq .0) in let b = length-contents in omega arith) in
       ap (drop p) (image-parts ∙ sym (append-assoc head contents body)) ∙ (drop-at (head ++ contents) body p c ∙ body-rows ds)
 
   -- the image, taken apart and laid out
-  pub laid-out : laidOut d (image r) (drop (16 + 44 * d) (image r)) ≡ stored r
+  pub laid-out : laidOut d (image r) (drop (headSize + entrySize * d) (image r)) ≡ stored r
   unfolding laidOut stored
   laid-out =
       let H : List ℕ = storedHead d n (r .seq .0) in
       let E : List ℕ = join (storedEntries ds) in
       let R : List ℕ = join (storedRows ds) in
-      let h : length H ≡ 16 = length-head d n (r .seq .0) in
+      let h : length H ≡ headSize = length-head d n (r .seq .0) in
       let e : length E ≤ contentsRoom = let a = size-entries r fits in let b = i .documents-most in omega arith in
       let c : length (H ++ filled contentsRoom E) ≡ rowsPlace = length-append H (filled contentsRoom E) ∙ (let a = length-filled contentsRoom E e in omega arith) in
-      let one : splice (zeros storeSize) 2 (part 2 10 (image r)) ≡ H ++ (zeros contentsRoom ++ zeros rowsRoom) =
-      ap₂ (λ (z s : List ℕ). splice z 2 (part 2 10 s)) (zeros-three 16 contentsRoom rowsRoom) image-parts
+      let one : splice (zeros storeSize) documentsAt (part documentsAt headMiddle (image r)) ≡ H ++ (zeros contentsRoom ++ zeros rowsRoom) =
+      ap₂ (λ (z s : List ℕ). splice z documentsAt (part documentsAt headMiddle s)) (zeros-three headSize contentsRoom rowsRoom) image-parts
       ∙ head-taken d n (r .seq .0) (contents ++ body) (zeros contentsRoom ++ zeros rowsRoom) in
-      let two : splice (H ++ (zeros contentsRoom ++ zeros rowsRoom)) 16 E ≡ (H ++ filled contentsRoom E) ++ zeros rowsRoom =
-      over-region H (zeros rowsRoom) E 16 contentsRoom h e ∙ sym (append-assoc H (filled contentsRoom E) (zeros rowsRoom)) in
+      let two : splice (H ++ (zeros contentsRoom ++ zeros rowsRoom)) headSize E ≡ (H ++ filled contentsRoom E) ++ zeros rowsRoom =
+      over-region H (zeros rowsRoom) E headSize contentsRoom h e ∙ sym (append-assoc H (filled contentsRoom E) (zeros rowsRoom)) in
       let three : splice ((H ++ filled contentsRoom E) ++ zeros rowsRoom) rowsPlace R ≡ H ++ (filled contentsRoom E ++ filled rowsRoom R) =
       over-last (H ++ filled contentsRoom E) R rowsPlace rowsRoom c ∙ append-assoc H (filled contentsRoom E) (filled rowsRoom R) in
-      ap₂ (λ (x y : List ℕ). splice x rowsPlace y) (ap₂ (λ (x y : List ℕ). splice x 16 y) one entries-taken ∙ two) (rows-taken (16 + 44 * d) refl)
+      ap₂ (λ (x y : List ℕ). splice x rowsPlace y) (ap₂ (λ (x y : List ℕ). splice x headSize y) one entries-taken ∙ two) (rows-taken (headSize + entrySize * d) refl)
       ∙ three
 
 -- ---- as the code lays it out
 
 pub laid : (d : ℕ) (src rows b b₁ b₂ b₃ b₄ : List ℕ) → length b ≡ storeSize
     → b₁ ≡ splice b 0 (zeros storeSize)
-    → b₂ ≡ splice b₁ 2 (part 2 10 src)
-    → b₃ ≡ splice b₂ 16 (moved 0 0 d 16 src)
+    → b₂ ≡ splice b₁ documentsAt (part documentsAt headMiddle src)
+    → b₃ ≡ splice b₂ headSize (moved 0 0 d headSize src)
     → b₄ ≡ splice b₃ rowsPlace rows
     → b₄ ≡ laidOut d src rows
 unfolding laidOut
 laid d src rows b b₁ b₂ b₃ b₄ z f₁ f₂ f₃ f₄ =
     let w : b₁ ≡ zeros storeSize = f₁ ∙ splice-whole b (zeros storeSize) (length-replicate {A = ℕ} storeSize 0 ∙ sym z) in
-    let g₂ : b₂ ≡ splice (zeros storeSize) 2 (part 2 10 src) = f₂ ∙ ap (λ (x : List ℕ). splice x 2 (part 2 10 src)) w in
-    let g₃ : b₃ ≡ splice (splice (zeros storeSize) 2 (part 2 10 src)) 16 (moved 0 0 d 16 src) = f₃ ∙ ap (λ (x : List ℕ). splice x 16 (moved 0 0 d 16 src)) g₂ in
+    let g₂ : b₂ ≡ splice (zeros storeSize) documentsAt (part documentsAt headMiddle src) = f₂ ∙ ap (λ (x : List ℕ). splice x documentsAt (part documentsAt headMiddle src)) w in
+    let g₃ : b₃ ≡ splice (splice (zeros storeSize) documentsAt (part documentsAt headMiddle src)) headSize (moved 0 0 d headSize src) =
+    f₃ ∙ ap (λ (x : List ℕ). splice x headSize (moved 0 0 d headSize src)) g₂ in
     f₄ ∙ ap (λ (x : List ℕ). splice x rowsPlace rows) g₃
 
 -- ---- bytes that have no fault
@@ -173,7 +176,7 @@ laid d src rows b b₁ b₂ b₃ b₄ z f₁ f₂ f₃ f₄ =
 pub record Stands (s : List ℕ) (d n : ℕ) : Type 0 where
   pub documents : d ≤ documentsMost
   pub revisions : n ≤ revisionsMost
-  pub size : length s ≡ 16 + 44 * d + 48 * n
+  pub size : length s ≡ headSize + entrySize * d + rowSize * n
 
 module _ (s : List ℕ) (p : Bytes s) (e : firstThat (faults s) ≡ none) where
   abbrev held : Replica
@@ -185,24 +188,24 @@ module _ (s : List ℕ) (p : Bytes s) (e : firstThat (faults s) ≡ none) where
   same : image held ≡ s
   same = loaded-is-replica s p e .1
 
-  count : value (part 2 2 s) ≡ length (held .documents)
-  count = ap (λ (t : List ℕ). value (part 2 2 t)) (sym same) ∙ documents-is held is
+  count : headOf s .documents ≡ length (held .documents)
+  count = ap (λ (t : List ℕ). headOf t .documents) (sym same) ∙ documents-is held is
 
-  pub stands : (c : ℕ) → c ≡ value (part 2 2 s) → Stands s c (revisionsHeld (held .documents))
+  pub stands : (c : ℕ) → c ≡ headOf s .documents → Stands s c (revisionsHeld (held .documents))
   stands c q =
       let a = is .documents-most in
       let b = count in
       let l = sym (ap length same) ∙ image-length held is in
       record { documents = omega arith; revisions = is .revisions-most; size = omega arith }
 
-  pub relaid : (c : ℕ) → c ≡ value (part 2 2 s) → laidOut c s (drop (16 + 44 * c) s) ≡ stored held
+  pub relaid : (c : ℕ) → c ≡ headOf s .documents → laidOut c s (drop (headSize + entrySize * c) s) ≡ stored held
   relaid c q =
-      ap₂ (λ (x : ℕ) (y : List ℕ). laidOut x y (drop (16 + 44 * x) y)) (q ∙ count) (sym same) ∙ laid-out held is
+      ap₂ (λ (x : ℕ) (y : List ℕ). laidOut x y (drop (headSize + entrySize * x) y)) (q ∙ count) (sym same) ∙ laid-out held is
 
   -- as the code takes the rows
-  pub taken : (c : ℕ) → c ≡ value (part 2 2 s) → (b : List ℕ) → b ≡ laidOut c s (take (length s - (16 + 44 * c)) (drop (16 + 44 * c) s)) → b ≡ stored held
+  pub taken : (c : ℕ) → c ≡ headOf s .documents → (b : List ℕ) → b ≡ laidOut c s (take (length s - (headSize + entrySize * c)) (drop (headSize + entrySize * c) s)) → b ≡ stored held
   taken c q b e =
-      e ∙ (ap (laidOut c s) (take-all (length s - (16 + 44 * c)) (drop (16 + 44 * c) s) (simp length-drop (omega arith))) ∙ relaid c q)
+      e ∙ (ap (laidOut c s) (take-all (length s - (headSize + entrySize * c)) (drop (headSize + entrySize * c) s) (simp length-drop (omega arith))) ∙ relaid c q)
 
   -- ---- the promise
 
@@ -211,7 +214,7 @@ module _ (s : List ℕ) (p : Bytes s) (e : firstThat (faults s) ≡ none) where
       let back : replicaOf after ≡ held = ap replicaOf q ∙ stored-back held (replica-fits held is) in
       let stored-now : IsStored after = record { same = q ∙ ap stored (sym back); replica = subst IsReplica (sym back) is } in
       record {
-        does = rw e (record { answers = refl; leaves = q });
+        does = rw e (record { answers = refl; left = q });
         means = loads (replicaOf before) s e ∙ ap {B = Loaded × Replica} (λ r. (Accepted, r)) (sym back);
         accepted = λ _. stored-now;
         shows = λ _. ap image back ∙ same;
@@ -220,7 +223,7 @@ module _ (s : List ℕ) (p : Bytes s) (e : firstThat (faults s) ≡ none) where
 
 pub loads-refused : (before s : List ℕ) (f : Fault) (p : ℕ) → firstThat (faults s) ≡ some (f, p) → Loads before s (Refused f p) before
 loads-refused before s f p e = record {
-  does = rw e (record { answers = refl; leaves = refl });
+  does = rw e (record { answers = refl; left = refl });
   means = refuses (replicaOf before) s (f, p) e;
   accepted = λ q. absurd (never q);
   shows = λ q. absurd (never q);

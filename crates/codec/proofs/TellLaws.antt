@@ -14,7 +14,9 @@ use Rattle.rules.specs.declared.Order.{Order}
 use Rattle.rules.specs.declared.Order.the-variants.{Less, Equal, Greater}
 use Rattle.rules.specs.Bytes.{be, value, part, Bytes}
 use Rattle.rules.specs.Choice.{firstThat}
-use Rattle.rules.specs.Image.{image, headOf, faults, totalLength}
+use Rattle.rules.specs.Faults.{faults}
+use Rattle.rules.specs.Image.{image, totalLength, edition}
+use Rattle.rules.specs.Layout.{headOf, entrySize, rowSize, documentsAt, headSize, countIn, placeIn}
 use Rattle.rules.specs.Order.{orderBytes, isEqual}
 use Rattle.rules.specs.Room.{documentsMost, revisionsMost}
 use Rattle.rules.proofs.ByteLaws.{bytes-append, bytes-part, bytes-be, length-be, length-part, part-front, part-past, part-part}
@@ -24,7 +26,7 @@ use Rattle.octets.specs.Splice.{splice}
 use Rattle.store.specs.Storage.{storeSize, rowsPlace, replicaOf, IsStored}
 use Rattle.store.proofs.FitLaws.{stored-laid}
 use Rattle.store.proofs.StoredLaws.{size-laid}
-use Rattle.codec.specs.Codec.{moved, laidOut, imageFrom, Counts, Tells}
+use Rattle.codec.specs.Codec.{headMiddle, moved, laidOut, imageFrom, CountsIn, Tells}
 use Rattle.codec.proofs.MoveLaws.{part-in, length-moved}
 use Rattle.codec.proofs.SaveLaws.{image-from, stored-counts}
 use Rattle.codec.proofs.TakeLaws.{laid-out, relaid, loads-accepted}
@@ -32,122 +34,122 @@ use Rattle.codec.proofs.TakeLaws.{laid-out, relaid, loads-accepted}
 -- ---- entries that are moved twice
 
 -- wherever they stood and whatever their places were, they are those of the first
-moved-again : (step place was old n p q : ℕ) (src A rest : List ℕ) → length A ≡ q → p + n * 44 ≤ length src
+moved-again : (step place was old n p q : ℕ) (src A rest : List ℕ) → length A ≡ q → p + n * entrySize ≤ length src
     → moved step place n q (A ++ (moved was old n p src ++ rest)) ≡ moved step place n p src
 unfolding moved
 moved-again step place was old zero p q src A rest a h = refl
 moved-again step place was old (suc n) p q src A rest a h =
-    let X : List ℕ = part p 40 src in
+    let X : List ℕ = part p placeIn src in
     let O : List ℕ = be 4 old in
-    let M : List ℕ = moved was (old + was * value (part (p + 34) 2 src)) n (p + 44) src in
+    let M : List ℕ = moved was (old + was * value (part (p + countIn) 2 src)) n (p + entrySize) src in
     let S : List ℕ = A ++ (((X ++ O) ++ M) ++ rest) in
-    let x : length X ≡ 40 = length-part p 40 src (omega arith) in
+    let x : length X ≡ placeIn = length-part p placeIn src (omega arith) in
     let b : ((X ++ O) ++ M) ++ rest ≡ X ++ (O ++ (M ++ rest)) = simp append-assoc in
-    let front : part q 40 S ≡ X =
-    ap (λ (k : ℕ). part k 40 S) (sym (add-zero q))
-    ∙ (part-past A (((X ++ O) ++ M) ++ rest) q 0 40 a ∙ (ap (part 0 40) b ∙ part-front X (O ++ (M ++ rest)) 40 x)) in
-    let rows : part (q + 34) 2 S ≡ part (p + 34) 2 src =
-    part-past A (((X ++ O) ++ M) ++ rest) q 34 2 a
-    ∙ (ap (part 34 2) b ∙ (part-in 34 2 X (O ++ (M ++ rest)) (omega arith) ∙ part-part 34 2 p 40 src (omega arith))) in
+    let front : part q placeIn S ≡ X =
+    ap (λ (k : ℕ). part k placeIn S) (sym (add-zero q))
+    ∙ (part-past A (((X ++ O) ++ M) ++ rest) q 0 placeIn a ∙ (ap (part 0 placeIn) b ∙ part-front X (O ++ (M ++ rest)) placeIn x)) in
+    let rows : part (q + countIn) 2 S ≡ part (p + countIn) 2 src =
+    part-past A (((X ++ O) ++ M) ++ rest) q countIn 2 a
+    ∙ (ap (part countIn 2) b ∙ (part-in countIn 2 X (O ++ (M ++ rest)) (omega arith) ∙ part-part countIn 2 p placeIn src (omega arith))) in
     let c : S ≡ (A ++ (X ++ O)) ++ (M ++ rest) = simp append-assoc in
-    let w : length (A ++ (X ++ O)) ≡ q + 44 =
+    let w : length (A ++ (X ++ O)) ≡ q + entrySize =
     length-append A (X ++ O) ∙ (let u = length-append X O in let v = length-be 4 old in omega arith) in
-    ap₂ (λ (l m : List ℕ). (l ++ be 4 place) ++ moved step (place + step * value m) n (q + 44) S) front rows
+    ap₂ (λ (l m : List ℕ). (l ++ be 4 place) ++ moved step (place + step * value m) n (q + entrySize) S) front rows
     ∙ ap (λ (l : List ℕ). (X ++ be 4 place) ++ l)
-    (ap (moved step (place + step * value (part (p + 34) 2 src)) n (q + 44)) c
-    ∙ moved-again step (place + step * value (part (p + 34) 2 src)) was (old + was * value (part (p + 34) 2 src)) n (p + 44) (q + 44) src (A ++ (X ++ O)) rest w (omega arith))
+    (ap (moved step (place + step * value (part (p + countIn) 2 src)) n (q + entrySize)) c
+    ∙ moved-again step (place + step * value (part (p + countIn) 2 src)) was (old + was * value (part (p + countIn) 2 src)) n (p + entrySize) (q + entrySize) src (A ++ (X ++ O)) rest w (omega arith))
 
 bytes-moved : (step place n at : ℕ) (s : List ℕ) → Bytes s → Bytes (moved step place n at s)
 unfolding moved
 bytes-moved step place zero at s h = tt
 bytes-moved step place (suc n) at s h =
-    bytes-append (part at 40 s ++ be 4 place) _
-    (bytes-append (part at 40 s) (be 4 place) (bytes-part at 40 s h) (bytes-be 4 place))
-    (bytes-moved step (place + step * value (part (at + 34) 2 s)) n (at + 44) s h)
+    bytes-append (part at placeIn s ++ be 4 place) _
+    (bytes-append (part at placeIn s) (be 4 place) (bytes-part at placeIn s h) (bytes-be 4 place))
+    (bytes-moved step (place + step * value (part (at + countIn) 2 s)) n (at + entrySize) s h)
 
 bytes-from : (d r : ℕ) (b : List ℕ) → Bytes b → Bytes (imageFrom d r b)
 unfolding imageFrom
 bytes-from d r b h =
-    bytes-append (be 2 1) _ (bytes-be 2 1)
-    (bytes-append (part 2 10 b) _ (bytes-part 2 10 b h)
+    bytes-append (be 2 edition) _ (bytes-be 2 edition)
+    (bytes-append (part documentsAt headMiddle b) _ (bytes-part documentsAt headMiddle b h)
     (bytes-append (be 4 (totalLength d r)) _ (bytes-be 4 (totalLength d r))
-    (bytes-append (moved 48 (16 + 44 * d) d 16 b) _ (bytes-moved 48 (16 + 44 * d) d 16 b h) (bytes-part rowsPlace (48 * r) b h))))
+    (bytes-append (moved rowSize (headSize + entrySize * d) d headSize b) _ (bytes-moved rowSize (headSize + entrySize * d) d headSize b h) (bytes-part rowsPlace (rowSize * r) b h))))
 
 -- ---- the parts of a buffer, and those of their image
 
-module _ (b : List ℕ) (d r : ℕ) (counts : Counts b d r) where
+module _ (b : List ℕ) (d r : ℕ) (counts : CountsIn b d r) where
   abbrev whole : List ℕ
   whole = imageFrom d r b
 
   abbrev rows : List ℕ
-  rows = part rowsPlace (48 * r) b
+  rows = part rowsPlace (rowSize * r) b
 
   abbrev X : List ℕ
-  X = part 2 10 b
+  X = part documentsAt headMiddle b
 
   abbrev T : List ℕ
   T = be 4 (totalLength d r)
 
   abbrev M : List ℕ
-  M = moved 48 (16 + 44 * d) d 16 b
+  M = moved rowSize (headSize + entrySize * d) d headSize b
 
-  length-X : length X ≡ 10
-  length-X = length-part 2 10 b (omega (arith, counts .size))
+  length-X : length X ≡ headMiddle
+  length-X = length-part documentsAt headMiddle b (omega (arith, counts .size))
 
-  length-M : length M ≡ d * 44
-  length-M = length-moved 48 (16 + 44 * d) d 16 b (omega (arith, counts .size, counts .documents-most))
+  length-M : length M ≡ d * entrySize
+  length-M = length-moved rowSize (headSize + entrySize * d) d headSize b (omega (arith, counts .size, counts .documents-most))
 
-  length-rows : length rows ≡ 48 * r
-  length-rows = length-part rowsPlace (48 * r) b (omega (arith, counts .size, counts .revisions-most))
+  length-rows : length rows ≡ rowSize * r
+  length-rows = length-part rowsPlace (rowSize * r) b (omega (arith, counts .size, counts .revisions-most))
 
   pub length-whole : length whole ≡ totalLength d r
   unfolding imageFrom
   length-whole =
-      length-append (be 2 1) (X ++ (T ++ (M ++ rows)))
+      length-append (be 2 edition) (X ++ (T ++ (M ++ rows)))
       ∙ (let a = length-append X (T ++ (M ++ rows)) in let b = length-append T (M ++ rows) in let c = length-append M rows in
-      let v = length-be 2 1 in let w = length-be 4 (totalLength d r) in let x = length-X in let m = length-M in let y = length-rows in omega arith)
+      let v = length-be 2 edition in let w = length-be 4 (totalLength d r) in let x = length-X in let m = length-M in let y = length-rows in omega arith)
 
   -- the head is the same but for edition and total
-  head-same : part 2 10 whole ≡ X
+  head-same : part documentsAt headMiddle whole ≡ X
   unfolding imageFrom
   head-same =
-      part-past (be 2 1) (X ++ (T ++ (M ++ rows))) 2 0 10 (length-be 2 1) ∙ part-front X (T ++ (M ++ rows)) 10 length-X
+      part-past (be 2 edition) (X ++ (T ++ (M ++ rows))) documentsAt 0 headMiddle (length-be 2 edition) ∙ part-front X (T ++ (M ++ rows)) headMiddle length-X
 
-  documents-same : value (part 2 2 whole) ≡ d
+  documents-same : headOf whole .documents ≡ d
   unfolding headOf
   documents-same =
-      ap value (sym (part-part 0 2 2 10 whole (omega arith)) ∙ (ap (part 0 2) head-same ∙ part-part 0 2 2 10 b (omega arith)))
+      ap value (sym (part-part 0 2 documentsAt headMiddle whole (omega arith)) ∙ (ap (part 0 2) head-same ∙ part-part 0 2 documentsAt headMiddle b (omega arith)))
       ∙ sym (counts .documents)
 
-  entries-same : moved 0 0 d 16 whole ≡ moved 0 0 d 16 b
+  entries-same : moved 0 0 d headSize whole ≡ moved 0 0 d headSize b
   unfolding imageFrom
   entries-same =
-      let H : List ℕ = be 2 1 ++ (X ++ T) in
-      let h : length H ≡ 16 =
-      length-append (be 2 1) (X ++ T)
-      ∙ (let u = length-append X T in let v = length-be 2 1 in let w = length-be 4 (totalLength d r) in let x = length-X in omega arith) in
-      let c : be 2 1 ++ (X ++ (T ++ (M ++ rows))) ≡ H ++ (M ++ rows) = simp append-assoc in
-      ap (moved 0 0 d 16) c
-      ∙ moved-again 0 0 48 (16 + 44 * d) d 16 16 b H rows h (omega (arith, counts .size, counts .documents-most))
+      let H : List ℕ = be 2 edition ++ (X ++ T) in
+      let h : length H ≡ headSize =
+      length-append (be 2 edition) (X ++ T)
+      ∙ (let u = length-append X T in let v = length-be 2 edition in let w = length-be 4 (totalLength d r) in let x = length-X in omega arith) in
+      let c : be 2 edition ++ (X ++ (T ++ (M ++ rows))) ≡ H ++ (M ++ rows) = simp append-assoc in
+      ap (moved 0 0 d headSize) c
+      ∙ moved-again 0 0 rowSize (headSize + entrySize * d) d headSize headSize b H rows h (omega (arith, counts .size, counts .documents-most))
 
-  rows-same : drop (16 + 44 * d) whole ≡ rows
+  rows-same : drop (headSize + entrySize * d) whole ≡ rows
   unfolding imageFrom
   rows-same =
-      let H : List ℕ = be 2 1 ++ (X ++ (T ++ M)) in
-      let h : length H ≡ 16 + 44 * d =
-      length-append (be 2 1) (X ++ (T ++ M))
-      ∙ (let u = length-append X (T ++ M) in let t = length-append T M in let v = length-be 2 1 in let w = length-be 4 (totalLength d r) in let x = length-X in let m = length-M in omega arith) in
-      let c : be 2 1 ++ (X ++ (T ++ (M ++ rows))) ≡ H ++ rows = simp append-assoc in
-      ap (drop (16 + 44 * d)) c ∙ drop-at H rows (16 + 44 * d) h
+      let H : List ℕ = be 2 edition ++ (X ++ (T ++ M)) in
+      let h : length H ≡ headSize + entrySize * d =
+      length-append (be 2 edition) (X ++ (T ++ M))
+      ∙ (omega (arith, length-append X (T ++ M), length-append T M, length-be 2 edition, length-be 4 (totalLength d r), length-X, length-M)) in
+      let c : be 2 edition ++ (X ++ (T ++ (M ++ rows))) ≡ H ++ rows = simp append-assoc in
+      ap (drop (headSize + entrySize * d)) c ∙ drop-at H rows (headSize + entrySize * d) h
 
   -- laid out from the buffer and from the image they are the same
-  laid-same : laidOut d b rows ≡ laidOut d whole (drop (16 + 44 * d) whole)
+  laid-same : laidOut d b rows ≡ laidOut d whole (drop (headSize + entrySize * d) whole)
   unfolding laidOut
   laid-same =
       let x = head-same in
       let m = entries-same in
       let y = rows-same in
-      sym (λ i. splice (splice (splice (replicate storeSize 0) 2 (x i)) 16 (m i)) rowsPlace (y i))
+      sym (λ i. splice (splice (splice (replicate storeSize 0) documentsAt (x i)) headSize (m i)) rowsPlace (y i))
 
   -- ---- exactly a replica's buffer is what its parts give, with an image that has no fault
 
@@ -164,7 +166,7 @@ module _ (b : List ℕ) (d r : ℕ) (counts : Counts b d r) where
       let p : d ≡ length (replicaOf b .documents) = counts .documents ∙ stored-counts b i .0 in
       sym
       (laid-same
-      ∙ (ap₂ (λ (x : ℕ) (y : List ℕ). laidOut x y (drop (16 + 44 * x) y)) p (whole-is i)
+      ∙ (ap₂ (λ (x : ℕ) (y : List ℕ). laidOut x y (drop (headSize + entrySize * x) y)) p (whole-is i)
       ∙ (laid-out (replicaOf b) (i .replica) ∙ sym (i .same))))
 
   pub so-fine : IsStored b → firstThat (faults whole) ≡ none
@@ -197,20 +199,18 @@ module _ (b : List ℕ) (n : ℕ) where
   pub not-sized : (length b ≡ storeSize → ⊥) → IsStored b → ⊥
   not-sized ne i = ne (size-laid b (stored-laid b i))
 
-  pub not-documents : n ≡ value (part 2 2 b) → documentsMost < n → IsStored b → ⊥
-  unfolding headOf
+  pub not-documents : n ≡ headOf b .documents → documentsMost < n → IsStored b → ⊥
   not-documents e h i = let c = stored-counts b i .0 in omega (arith, i .replica .documents-most)
 
-  pub not-revisions : n ≡ value (part 4 2 b) → revisionsMost < n → IsStored b → ⊥
-  unfolding headOf
+  pub not-revisions : n ≡ headOf b .revisions → revisionsMost < n → IsStored b → ⊥
   not-revisions e h i = let c = stored-counts b i .1 in omega (arith, i .replica .revisions-most)
 
 -- laid out anew, as the code takes the rows
-pub anew : (b : List ℕ) (d r k : ℕ) (t : List ℕ) → t ≡ laidOut d b (take k (drop rowsPlace b)) → k ≡ 48 * r → t ≡ laidOut d b (part rowsPlace (48 * r) b)
+pub anew : (b : List ℕ) (d r k : ℕ) (t : List ℕ) → t ≡ laidOut d b (take k (drop rowsPlace b)) → k ≡ rowSize * r → t ≡ laidOut d b (part rowsPlace (rowSize * r) b)
 unfolding part
 anew b d r k t q p = q ∙ ap (λ (n : ℕ). laidOut d b (take n (drop rowsPlace b))) p
 
-module _ (b : List ℕ) (d r : ℕ) (counts : Counts b d r) (t : List ℕ) (laid : t ≡ laidOut d b (part rowsPlace (48 * r) b)) where
+module _ (b : List ℕ) (d r : ℕ) (counts : CountsIn b d r) (t : List ℕ) (laid : t ≡ laidOut d b (part rowsPlace (rowSize * r) b)) where
   pub tells-other : isEqual (orderBytes b t) ≡ false → Tells (IsStored b) false
   tells-other e = not-so (λ i. same-false b t e (so-laid b d r counts i ∙ sym laid))
 

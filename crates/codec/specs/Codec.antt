@@ -3,18 +3,24 @@ use mathlib.Core.Path.{_≡_}
 use mathlib.Core.Bool.{Bool, true}
 use mathlib.Core.List.{List, [], _++_}
 use mathlib.Core.Option.{Option, none, some}
-use Prim.Native.Nat.{ℕ, zero, suc, _+_, _*_, _≤_}
+use Prim.Native.Nat.{ℕ, zero, suc, _+_, _-_, _*_, _≤_}
 use lib.ListN.{length, replicate}
 use Rattle.rules.specs.declared.Fault.{Fault}
 use Rattle.rules.specs.declared.Loaded.{Loaded}
 use Rattle.rules.specs.declared.Loaded.the-variants.{Accepted, Refused}
 use Rattle.rules.specs.Bytes.{be, value, part}
 use Rattle.rules.specs.Choice.{firstThat}
-use Rattle.rules.specs.Image.{edition, image, headOf, faults, replicaIn, load, headSize, entrySize, rowSize, totalLength}
+use Rattle.rules.specs.Faults.{faults, load}
+use Rattle.rules.specs.Image.{edition, image, replicaIn, totalLength}
+use Rattle.rules.specs.Layout.{headOf, documentsAt, totalAt, headSize, countIn, placeIn, entrySize, rowSize}
 use Rattle.rules.specs.Outcome.{Does}
 use Rattle.rules.specs.Room.{documentsMost, revisionsMost}
 use Rattle.octets.specs.Splice.{splice}
 use Rattle.store.specs.Storage.{rowsRoom, rowsPlace, storeSize, stored, replicaOf, IsStored}
+
+-- the head from its counts to its update sequence: all but edition and total
+abbrev pub headMiddle : ℕ
+headMiddle = totalAt - documentsAt
 
 -- ---- entries
 
@@ -22,7 +28,7 @@ use Rattle.store.specs.Storage.{rowsRoom, rowsPlace, storeSize, stored, replica
 unfoldable pub moved : ℕ → ℕ → ℕ → ℕ → List ℕ → List ℕ
 moved step place zero at s = []
 moved step place (suc n) at s =
-    (part at 40 s ++ be 4 place) ++ moved step (place + step * value (part (at + 34) 2 s)) n (at + entrySize) s
+    (part at placeIn s ++ be 4 place) ++ moved step (place + step * value (part (at + countIn) 2 s)) n (at + entrySize) s
 
 -- d entries have room in both, and no place is too large for its four bytes
 pub record CanMove (d first step : ℕ) (dst src : List ℕ) : Type 0 where
@@ -37,7 +43,7 @@ pub record CanMove (d first step : ℕ) (dst src : List ℕ) : Type 0 where
 -- a buffer with the head of src but for edition and total, its first d entries with place 0, and rows
 unfoldable pub laidOut : ℕ → List ℕ → List ℕ → List ℕ
 laidOut d src rows =
-    splice (splice (splice (replicate storeSize 0) 2 (part 2 10 src)) headSize (moved 0 0 d headSize src)) rowsPlace rows
+    splice (splice (splice (replicate storeSize 0) documentsAt (part documentsAt headMiddle src)) headSize (moved 0 0 d headSize src)) rowsPlace rows
 
 -- b is a buffer, and src and the rows have no more than it holds
 pub record CanLay (b src : List ℕ) (d : ℕ) (rows : List ℕ) : Type 0 where
@@ -75,7 +81,7 @@ pub record Loads (before s : List ℕ) (answer : Loaded) (after : List ℕ) : Ty
 unfoldable pub imageFrom : ℕ → ℕ → List ℕ → List ℕ
 imageFrom d r b =
     be 2 edition
-    ++ (part 2 10 b
+    ++ (part documentsAt headMiddle b
     ++ (be 4 (totalLength d r)
     ++ (moved rowSize (headSize + entrySize * d) d headSize b ++ part rowsPlace (rowSize * r) b)))
 
@@ -89,7 +95,7 @@ pub record CanWrite (b out : List ℕ) (d r : ℕ) : Type 0 where
 -- ---- telling
 
 -- b has the size of a buffer, and counts d documents and r revisions, no more than there is room for
-pub record Counts (b : List ℕ) (d r : ℕ) : Type 0 where
+pub record CountsIn (b : List ℕ) (d r : ℕ) : Type 0 where
   pub size : length b ≡ storeSize
   pub documents : d ≡ headOf b .documents
   pub revisions : r ≡ headOf b .revisions

@@ -1,43 +1,41 @@
 // Codec: loading a stored image into a buffer, saving the replica in a buffer as its image, and telling
 // whether bytes are such a buffer.
 // Head, entries and rows are copied as bytes: only the places of the entries differ between an image
-// and a buffer. It uses the crates rules, octets, store and faults, and the laws of the crate images.
+// and a buffer. It uses the crates rules, octets, layout, store and faults, and the laws of the crate images.
 use faults::Judged;
 use faults::fault;
-use octets::number::get2;
-use octets::number::put2;
-use octets::number::put4;
+use layout::DOCUMENTS_AT;
+use layout::ENTRY;
+use layout::HEAD;
+use layout::PLACE_IN;
+use layout::ROW;
+use layout::ROWS;
+use layout::SIZE;
+use layout::TOTAL_AT;
+use layout::entry::put_place;
+use layout::entry::rows;
+use layout::head::documents;
+use layout::head::put_edition;
+use layout::head::put_total;
+use layout::head::revisions;
 use octets::order::same_bytes;
 use octets::run::clear;
 use octets::run::copy_in;
 use rules::Answered;
-use rules::COUNT_IN;
 use rules::DOCUMENTS;
-use rules::DOCUMENTS_AT;
-use rules::ENTRY;
-use rules::HEAD;
 use rules::Loaded;
 use rules::REVISIONS;
-use rules::REVISIONS_AT;
-use rules::ROW;
 use rules::Refusal;
-use store::ROWS;
-use store::SIZE;
 use store::read::documents_held;
 use store::read::revisions_held;
 ghost use mathlib.Core.Path.{_≡_};
 ghost use lib.ListN.{length};
-ghost use Rattle.rules.specs.Image.{save, replicaIn, headSize};
+ghost use Rattle.rules.specs.Image.{save, replicaIn};
+ghost use Rattle.rules.specs.Layout.{headSize};
 ghost use Rattle.rules.specs.Outcome.{Does};
 ghost use Rattle.octets.specs.Splice.{splice};
 ghost use Rattle.store.specs.Storage.{storeSize, stored, replicaOf, IsStored};
-ghost use Rattle.codec.specs.Codec.{moved, CanMove, laidOut, CanLay, CanTake, imageFrom, CanWrite, Loads, Counts, Tells};
-
-// Where an image's head has its total length, and an entry the place of its first row. A buffer has
-// neither.
-const TOTAL_AT: usize = 12;
-
-const PLACE_IN: usize = 40;
+ghost use Rattle.codec.specs.Codec.{moved, CanMove, laidOut, CanLay, CanTake, imageFrom, CanWrite, Loads, CountsIn, Tells};
 
 // Copies d entries from src to dst. The first gets `first` as its place, and each row of an entry moves
 // the next place on by `step`.
@@ -51,8 +49,8 @@ fn copy_entries(dst: &mut [u8], src: &[u8], d: usize, first: usize, step: usize)
         let at = HEAD + ENTRY * i;
         let e = at + PLACE_IN;
         copy_in(dst, at, &src[at..e]);
-        put4(dst, e, place as u32);
-        place += step * get2(src, at + COUNT_IN);
+        put_place(dst, at, place as u32);
+        place += step * rows(src, at);
         i += 1;
     }
 }
@@ -73,9 +71,9 @@ fn take_in(b: &mut [u8], image: &[u8])
     requires { ⌜ CanTake (now b) (now image) ⌝ }
     ensures { λ _. ⌜ now (b .exit) ≡ stored (replicaIn (now (image .entry))) ⌝ }
 {
-    let d = get2(image, DOCUMENTS_AT);
-    let rows = HEAD + ENTRY * d;
-    lay_out(b, image, d, &image[rows..]);
+    let d = documents(image);
+    let body = HEAD + ENTRY * d;
+    lay_out(b, image, d, &image[body..]);
 }
 
 // Makes the buffer the replica of an image, or leaves it as it was.
@@ -97,13 +95,13 @@ fn write_image(b: &[u8], out: &mut [u8], d: usize, r: usize)
     requires { ⌜ CanWrite (now b) (now out) d r ⌝ }
     ensures { λ _. ⌜ now (out .exit) ≡ splice (now (out .entry)) 0 (imageFrom d r (now (b .entry))) ⌝ }
 {
-    let rows = HEAD + ENTRY * d;
+    let body = HEAD + ENTRY * d;
     let e = ROWS + ROW * r;
-    put2(out, 0, 1);
+    put_edition(out, 1);
     copy_in(out, DOCUMENTS_AT, &b[DOCUMENTS_AT..TOTAL_AT]);
-    put4(out, TOTAL_AT, (rows + ROW * r) as u32);
-    copy_entries(out, b, d, rows, ROW);
-    copy_in(out, rows, &b[ROWS..e]);
+    put_total(out, (body + ROW * r) as u32);
+    copy_entries(out, b, d, body, ROW);
+    copy_in(out, body, &b[ROWS..e]);
 }
 
 // Writes the image of the replica in the buffer, and answers its length.
@@ -124,7 +122,7 @@ pub fn save(b: &[u8], out: &mut [u8]) -> Answered
 // Whether a buffer with d documents and r revisions is a replica. One scratch serves twice: for what the
 // parts of the buffer are, laid out anew, and for their image.
 fn holds_replica(b: &[u8], d: usize, r: usize) -> bool
-    requires { ⌜ Counts (now b) d r ⌝ }
+    requires { ⌜ CountsIn (now b) d r ⌝ }
     ensures { λ a. ⌜ Tells (IsStored (now (b .entry))) a ⌝ }
 {
     let e = ROWS + ROW * r;
@@ -148,11 +146,11 @@ pub fn is_replica(b: &[u8]) -> bool
     if b.len() != SIZE {
         return false;
     }
-    let d = get2(b, DOCUMENTS_AT);
+    let d = documents(b);
     if DOCUMENTS < d {
         return false;
     }
-    let r = get2(b, REVISIONS_AT);
+    let r = revisions(b);
     if REVISIONS < r {
         return false;
     }

@@ -13,8 +13,11 @@ use lib.Seq.{drop-drop}
 use borrow.Author.Tests.{eq-eqb, ne-eqb}
 use Rattle.rules.specs.Bytes.{part, pieces}
 use Rattle.rules.specs.Choice.{pick, orElse, any}
-use Rattle.rules.specs.Image.{Entry, entryOf, entriesOf, headOf, firstTrue, sumRows, badEntry, badEntries, badContents, badSeqs, largest, badSequence}
-use Rattle.faults.specs.Places.{entryAt, idBefore, seqAt, seqsBefore}
+use Rattle.rules.specs.Faults.{firstTrue, sumRows, badEntry, badEntries, badContents, badSeqs, largest, badSequence}
+use Rattle.rules.specs.Image.{entriesOf}
+use Rattle.rules.specs.Layout.{Entry, entryOf, headOf, entrySize, rowSize, headSize}
+use Rattle.layout.specs.Fields.{entryPlace}
+use Rattle.faults.specs.Places.{entryAt, idBefore, seqAt, seqsBefore, rowPlace}
 
 -- n items of w bytes each, from byte `at` on
 module _ {A : Type 0} (f : List ℕ → A) (w : ℕ) where
@@ -33,22 +36,22 @@ module _ {A : Type 0} (f : List ℕ → A) (w : ℕ) where
 
 -- the entries from i on, of d
 unfoldable pub entriesFrom : ℕ → ℕ → List ℕ → List Entry
-entriesFrom i d s = items entryOf 44 (16 + 44 * i) (d - i) s
+entriesFrom i d s = items entryOf entrySize (entryPlace i) (d - i) s
 
 pub entries-all : (s : List ℕ) → entriesOf s ≡ entriesFrom 0 (headOf s .documents) s
 unfolding entriesOf entriesFrom items
-entries-all s = let e : headOf s .documents ≡ headOf s .documents - 0 = omega arith in ap (λ (k : ℕ). map entryOf (pieces k 44 (drop 16 s))) e
+entries-all s = let e : headOf s .documents ≡ headOf s .documents - 0 = omega arith in ap (λ (k : ℕ). map entryOf (pieces k entrySize (drop headSize s))) e
 
 pub entries-next : (i d : ℕ) (s : List ℕ) → i < d → entriesFrom i d s ≡ entryAt i s ∷ entriesFrom (i + 1) d s
-unfolding entriesFrom entryAt
+unfolding entriesFrom
 entries-next i d s h =
-    let k : 16 + 44 * i + 44 ≡ 16 + 44 * (i + 1) = omega arith in
-    items-next entryOf 44 (16 + 44 * i) (d - i) (d - (i + 1)) s (omega arith)
-    ∙ ap (λ (n : ℕ). entryOf (part (16 + 44 * i) 44 s) ∷ items entryOf 44 n (d - (i + 1)) s) k
+    let k : entryPlace i + entrySize ≡ entryPlace (i + 1) = omega arith in
+    items-next entryOf entrySize (entryPlace i) (d - i) (d - (i + 1)) s (omega arith)
+    ∙ ap (λ (n : ℕ). entryOf (part (entryPlace i) entrySize s) ∷ items entryOf entrySize n (d - (i + 1)) s) k
 
 pub entries-none : (i d : ℕ) (s : List ℕ) → d ≤ i → entriesFrom i d s ≡ []
 unfolding entriesFrom
-entries-none i d s h = items-none entryOf 44 (16 + 44 * i) (d - i) s (omega arith)
+entries-none i d s h = items-none entryOf entrySize (entryPlace i) (d - i) s (omega arith)
 
 -- ---- 23
 
@@ -56,18 +59,18 @@ module _ (s : List ℕ) (d r : ℕ) where
   -- what is still to be found from entry i on, where `rows` rows are before it
   unfoldable pub contentsFrom : ℕ → ℕ → Option ℕ
   contentsFrom i rows =
-      orElse (firstTrue i (badEntries (16 + 44 * d + 48 * rows) (idBefore i s) (entriesFrom i d s)))
+      orElse (firstTrue i (badEntries (rowPlace d rows) (idBefore i s) (entriesFrom i d s)))
       (pick (eqb (rows + sumRows (entriesFrom i d s)) r) none (some d))
 
-  pub contents-bad : (i rows : ℕ) → i < d → badEntry (16 + 44 * d + 48 * rows) (idBefore i s) (entryAt i s) ≡ true → contentsFrom i rows ≡ some i
+  pub contents-bad : (i rows : ℕ) → i < d → badEntry (rowPlace d rows) (idBefore i s) (entryAt i s) ≡ true → contentsFrom i rows ≡ some i
   unfolding contentsFrom firstTrue badEntries
   contents-bad i rows h e = rw (entries-next i d s h, e)
 
-  pub contents-next : (i rows : ℕ) → i < d → badEntry (16 + 44 * d + 48 * rows) (idBefore i s) (entryAt i s) ≡ false
+  pub contents-next : (i rows : ℕ) → i < d → badEntry (rowPlace d rows) (idBefore i s) (entryAt i s) ≡ false
       → contentsFrom i rows ≡ contentsFrom (i + 1) (rows + entryAt i s .rows)
   unfolding contentsFrom firstTrue badEntries sumRows
   contents-next i rows h e =
-      let k : 16 + 44 * d + 48 * rows + 48 * entryAt i s .rows ≡ 16 + 44 * d + 48 * (rows + entryAt i s .rows) = omega arith in
+      let k : rowPlace d rows + rowSize * entryAt i s .rows ≡ rowPlace d (rows + entryAt i s .rows) = omega arith in
       rw (entries-next i d s h, e, k, add-one i, sym (add-assoc rows (entryAt i s .rows) (sumRows (entriesFrom (suc i) d s))))
 
   pub contents-end : (i rows : ℕ) → d ≤ i → contentsFrom i rows ≡ pick (eqb rows r) none (some d)
@@ -76,7 +79,7 @@ module _ (s : List ℕ) (d r : ℕ) where
 
 pub contents-all : (s : List ℕ) → badContents s ≡ contentsFrom s (headOf s .documents) (headOf s .revisions) 0 0
 unfolding badContents contentsFrom
-contents-all s = rw (entries-all s, add-zero (16 + 44 * headOf s .documents), zero-add (sumRows (entriesFrom 0 (headOf s .documents) s)))
+contents-all s = rw (entries-all s, add-zero (entryPlace (headOf s .documents)), zero-add (sumRows (entriesFrom 0 (headOf s .documents) s)))
 
 -- ---- 24
 
@@ -110,12 +113,12 @@ sequence-all s =
     rw (entries-all s, k)
 
 -- an own sequence among those before it
-module _ (i : ℕ) (s : List ℕ) where
-  pub own-zero : seqAt i s ≡ 0 → (eqb (seqAt i s) 0 || any (eqb (seqAt i s)) (seqsBefore i s)) ≡ true
-  own-zero e = rw (eq-eqb (seqAt i s) 0 e)
+module _ (q i : ℕ) (s : List ℕ) where
+  pub own-zero : q ≡ 0 → (eqb q 0 || any (eqb q) (seqsBefore i s)) ≡ true
+  own-zero e = rw (eq-eqb q 0 e)
 
-  pub own-none : (seqAt i s ≡ 0 → ⊥) → (eqb (seqAt i s) 0 || any (eqb (seqAt i s)) (seqsBefore i s)) ≡ any (eqb (seqAt i s)) (seqsBefore i s)
-  own-none h = rw (ne-eqb (seqAt i s) 0 h)
+  pub own-none : (q ≡ 0 → ⊥) → (eqb q 0 || any (eqb q) (seqsBefore i s)) ≡ any (eqb q) (seqsBefore i s)
+  own-none h = rw (ne-eqb q 0 h)
 
 module _ (q j : ℕ) (s : List ℕ) where
   any-next : 1 ≤ j → any (eqb q) (seqsBefore j s) ≡ (eqb q (seqAt (j - 1) s) || any (eqb q) (seqsBefore (j - 1) s))

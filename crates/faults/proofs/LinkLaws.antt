@@ -9,15 +9,17 @@ use native.Mathlib.Nat.{add-zero, add-suc, eq-or-lt-of-le, le-refl}
 use native.Mathlib.Numerals.{add-one}
 use native.Mathlib.Omega.{arith}
 use lib.Dec.{eqb, leb, ltb}
-use lib.ListN.{length, getD, set, take, drop, length-map, length-set, replicate, length-replicate, getD-replicate, replicate-append-replicate}
+use lib.ListN.{length, getD, set, take, drop, length-set, replicate, length-replicate, getD-replicate, replicate-append-replicate}
 use lib.Seq.{take-at, getD-set-same, getD-set-other, drop-drop}
 use borrow.Author.Tests.{eq-eqb, ne-eqb, eqb-true, eqb-false, leb-true, leb-false, ltb-true, ltb-false}
 use Rattle.rules.specs.declared.Order.{Order}
 use Rattle.rules.specs.declared.Order.the-variants.{Less, Equal, Greater}
 use Rattle.rules.specs.declared.Revision.{Revision}
 use Rattle.rules.specs.Bytes.{part, pieces}
-use Rattle.rules.specs.Choice.{pick, orElse, any}
-use Rattle.rules.specs.Image.{Row, rowOf, nodeIn, badRow, badRows, firstTrue, parentOfRow, isParentOf, badLink, badLinks}
+use Rattle.rules.specs.Choice.{pick, any}
+use Rattle.rules.specs.Faults.{badRow, badRows, firstTrue, isParentOf, badLink, badLinks}
+use Rattle.rules.specs.Image.{parentOfRow}
+use Rattle.rules.specs.Layout.{Row, rowOf, rowSize}
 use Rattle.rules.specs.Map.{Ascending}
 use Rattle.rules.specs.Order.{orderRev, isEqual, sameRev}
 use Rattle.rules.specs.Replica.{Tree, revision}
@@ -27,31 +29,35 @@ use Rattle.rules.proofs.OrderLaws.{revOrder, turn-less, less≢greater}
 use Rattle.images.proofs.Lists.{Each, map-append}
 use Rattle.images.proofs.Tests.{true≢false}
 use Rattle.images.proofs.Rows.{RowRules, row-rules}
-use Rattle.images.proofs.Rules.{true-none, none-true}
+use Rattle.images.proofs.Rules.{true-none}
 use Rattle.images.proofs.Trees.{RowsHold, rows-back}
+use Rattle.tree.specs.declared.table.Body.{Body}
 use Rattle.tree.specs.declared.table.Found.{Found}
 use Rattle.tree.specs.declared.table.Found.the-variants.{At, Gap}
-use Rattle.tree.specs.Rows.{nodeAt, revAt}
-use Rattle.tree.specs.Table.{treeAt, placeOf, Searchable}
+use Rattle.tree.specs.Rows.{meaning, rowFrom, nodeHeld, nodeAt, revAt}
+use Rattle.tree.specs.Table.{body, treeAt, placeOf, Searchable}
+use Rattle.tree.proofs.EditionLaws.{tree-held}
 use Rattle.tree.proofs.TableLaws.{length-tree, tree-take, tree-cut}
 use Rattle.tree.proofs.RowLaws.{rev-greater}
 use Rattle.tree.proofs.PlaceLaws.{place-at}
 use Rattle.tree.proofs.SearchLaws.{revIn, rev-in, ascends, ascending-take, found-here}
+use Rattle.faults.specs.declared.Rule.the-variants.{Links}
 use Rattle.faults.specs.declared.links.Run.{Run}
 use Rattle.faults.specs.declared.links.Parent.{Parent}
 use Rattle.faults.specs.declared.links.Parent.the-variants.{Unknown, Missing, Among}
-use Rattle.faults.specs.Places.{entryAt, rowAt, rowsAt}
-use Rattle.faults.proofs.RowLaws.{rowsFrom, rows-all, rows-next, rows-none, eachFrom, each-next, size-rows}
-use Rattle.faults.specs.Links.{rowOn, numberOn, Ordered, runOn, Serves, among, parentAmong, parentOn, missing, misfit, bit, Marks, FirstMissing, Marked}
+use Rattle.faults.specs.Each.{CanTest}
+use Rattle.faults.specs.Places.{rowAt, rowsAt}
+use Rattle.faults.proofs.RowLaws.{rowsFrom, rows-all, rows-next, rows-none}
+use Rattle.faults.specs.Links.{rowOn, numberOn, Ordered, runOn, Serves, among, parentAmong, parentOn, CanLink, missing, misfit, bit, Marks, FirstMissing, Marked}
 
 -- ---- rows one after the other
 
-pub rows-snoc : (base n : ℕ) (s : List ℕ) → rowsAt base (n + 1) s ≡ rowsAt base n s ++ (rowOn base n s ∷ [])
-unfolding rowsAt rowAt pieces part
+rows-snoc : (base n : ℕ) (s : List ℕ) → rowsAt base (n + 1) s ≡ rowsAt base n s ++ (rowOn base n s ∷ [])
+unfolding rowsAt pieces part
 rows-snoc base n s =
-    ap (map rowOf) (pieces-add n 1 48 (drop base s))
-    ∙ (map-append rowOf (pieces n 48 (drop base s)) (pieces 1 48 (drop (n * 48) (drop base s)))
-    ∙ ap (λ (l : List ℕ). map rowOf (pieces n 48 (drop base s)) ++ (rowOf (take 48 l) ∷ [])) (drop-drop (n * 48) base s))
+    ap (map rowOf) (pieces-add n 1 rowSize (drop base s))
+    ∙ (map-append rowOf (pieces n rowSize (drop base s)) (pieces 1 rowSize (drop (n * rowSize) (drop base s)))
+    ∙ ap (λ (l : List ℕ). map rowOf (pieces n rowSize (drop base s)) ++ (rowOf (take rowSize l) ∷ [])) (drop-drop (n * rowSize) base s))
 
 any-snoc : {A : Type 0} (f : A → Bool) (xs : List A) (x : A) → any f (xs ++ (x ∷ [])) ≡ (any f xs || f x)
 unfolding any
@@ -68,20 +74,20 @@ any-snoc f (y ∷ xs) x = rw (any-snoc f xs x) (go (f y) (any f xs) (f x))
 
 module _ (base : ℕ) (s : List ℕ) (f : Row → Bool) where
   -- one row more
-  pub any-next : (n : ℕ) → any f (rowsAt base (n + 1) s) ≡ (any f (rowsAt base n s) || f (rowOn base n s))
+  any-next : (n : ℕ) → any f (rowsAt base (n + 1) s) ≡ (any f (rowsAt base n s) || f (rowOn base n s))
   any-next n = ap (any f) (rows-snoc base n s) ∙ any-snoc f (rowsAt base n s) (rowOn base n s)
 
   any-empty : any f (rowsAt base 0 s) ≡ false
   unfolding any rowsAt pieces
   any-empty = refl
 
-  pub any-none : (n : ℕ) → ((m : ℕ) → m < n → f (rowOn base m s) ≡ false) → any f (rowsAt base n s) ≡ false
+  any-none : (n : ℕ) → ((m : ℕ) → m < n → f (rowOn base m s) ≡ false) → any f (rowsAt base n s) ≡ false
   any-none zero h = any-empty
   any-none (suc n) h =
       ap (λ (k : ℕ). any f (rowsAt base k s)) (sym (add-one n))
       ∙ (any-next n ∙ ap₂ (λ (a b : Bool). a || b) (any-none n (λ m l. h m (omega arith))) (h n (omega arith)))
 
-  pub any-some : (n m : ℕ) → m < n → f (rowOn base m s) ≡ true → any f (rowsAt base n s) ≡ true
+  any-some : (n m : ℕ) → m < n → f (rowOn base m s) ≡ true → any f (rowsAt base n s) ≡ true
   any-some zero m l e = absurd (omega arith)
   any-some (suc n) m l e =
       ap (λ (k : ℕ). any f (rowsAt base k s)) (sym (add-one n))
@@ -128,17 +134,21 @@ ascending-after : (a b : Tree) → Ascending orderRev (a ++ b) → Ascending ord
 ascending-after [] b h = h
 ascending-after (x ∷ a) b h = ascending-after a b (h .1)
 
+-- what 26 asks of rows is that they are ordered
+pub rows-ordered : (b : Body) (k : ℕ) (s : List ℕ) → CanTest Links b k s → Ordered (b .base) (b .rows) s
+rows-ordered b k s p = let m = p .most in record { within = p .within; most = omega arith; good = p .before }
+
 module _ (base n : ℕ) (s : List ℕ) (o : Ordered base n s) where
   held : RowsHold none (rowsAt base n s)
   held = rows-back none (rowsAt base n s) (true-none 0 (badRows none (rowsAt base n s)) (o .good))
 
-  pub tree-ascends : Ascending orderRev (treeAt base n s)
-  unfolding treeAt rowsAt
-  tree-ascends = held .ascending
+  tree-ascends : Ascending orderRev (treeAt base n s)
+  unfolding rowsAt
+  tree-ascends = subst (Ascending orderRev) (sym (tree-held base n s)) (held .ascending)
 
   -- two rows
-  pub rows-ascend : (i j : ℕ) → i < j → j < n → orderRev (rowOn base i s .rev) (rowOn base j s .rev) ≡ Less
-  unfolding rowAt revAt nodeAt nodeIn
+  rows-ascend : (i j : ℕ) → i < j → j < n → orderRev (rowOn base i s .rev) (rowOn base j s .rev) ≡ Less
+  unfolding revAt nodeAt nodeHeld meaning rowFrom
   rows-ascend i j h l =
       let k = length-tree base n s in
       let a = ascends (treeAt base n s) tree-ascends i j h (omega arith) in
@@ -146,7 +156,7 @@ module _ (base n : ℕ) (s : List ℕ) (o : Ordered base n s) where
       let y = rev-in base n j s l in
       rw (x, y) at a
 
-  pub numbers-ascend : (i j : ℕ) → i ≤ j → j < n → numberOn base i s ≤ numberOn base j s
+  numbers-ascend : (i j : ℕ) → i ≤ j → j < n → numberOn base i s ≤ numberOn base j s
   numbers-ascend i j h l =
       ⊎-elim (λ (q : i ≡ j). rw q (le-refl (numberOn base j s)))
       (λ (q : i < j). number-le (rowOn base i s .rev) (rowOn base j s .rev) (rows-ascend i j q l)) (eq-or-lt-of-le h)
@@ -159,7 +169,7 @@ module _ (base n : ℕ) (s : List ℕ) (o : Ordered base n s) where
       go true q = absurd (true≢false (sym (any-some base s badRow n i h q) ∙ each-none badRow (rowsAt base n s) (held .each)))
 
   -- two rows are two revisions
-  pub rows-differ : (i j : ℕ) → i < n → j < n → (i ≡ j → ⊥) → sameRev (rowOn base i s .rev) (rowOn base j s .rev) ≡ false
+  rows-differ : (i j : ℕ) → i < n → j < n → (i ≡ j → ⊥) → sameRev (rowOn base i s .rev) (rowOn base j s .rev) ≡ false
   unfolding sameRev
   rows-differ i j a b h = go (ltb i j) refl
     where
@@ -171,13 +181,13 @@ module _ (base n : ℕ) (s : List ℕ) (o : Ordered base n s) where
           ap isEqual (turn-less revOrder (rowOn base j s .rev) (rowOn base i s .rev) (rows-ascend j i k a))
 
   -- a run within them can be searched
-  pub run-searchable : (lo hi : ℕ) → lo ≤ hi → hi ≤ n → Searchable (base + lo * 48) (hi - lo) s
+  pub run-searchable : (lo hi : ℕ) → lo ≤ hi → hi ≤ n → Searchable (body (base + lo * rowSize) (hi - lo)) s
   run-searchable lo hi a b =
       let front : Ascending orderRev (treeAt base hi s) = rw (tree-take base hi n s b) at (ascending-take hi (treeAt base n s) tree-ascends) in
       let cut = tree-cut base lo (hi - lo) hi s (omega arith) in
       record {
         within = let w = o .within in omega arith;
-        ascending = ascending-after (treeAt base lo s) (treeAt (base + lo * 48) (hi - lo) s) (rw cut at front);
+        ascending = ascending-after (treeAt base lo s) (treeAt (base + lo * rowSize) (hi - lo) s) (rw cut at front);
       }
 
   -- ---- the run in which a parent lies
@@ -214,7 +224,7 @@ module _ (base n : ℕ) (s : List ℕ) (o : Ordered base n s) where
             refl,
           )
 
-  pub serves-run : (j : ℕ) (run next : Run) → j < n → Serves base j run s → next ≡ runOn base run j s
+  serves-run : (j : ℕ) (run next : Run) → j < n → Serves base j run s → next ≡ runOn base run j s
       → Serves base (suc j) next s × (numberOn base (next .hi) s ≡ numberOn base j s)
   serves-run j run next l v e =
       subst (λ (r : Run). Serves base (suc j) r s × (numberOn base (r .hi) s ≡ numberOn base j s)) (sym e) (serves-next j run l v)
@@ -225,26 +235,26 @@ module _ (base n : ℕ) (s : List ℕ) (o : Ordered base n s) where
     run-within = let w = v .within in omega arith
 
     abbrev run-tree : Tree
-    run-tree = treeAt (base + run .lo * 48) (run .hi - run .lo) s
+    run-tree = treeAt (base + run .lo * rowSize) (run .hi - run .lo) s
 
     in-run : (i : ℕ) → i < run .hi - run .lo → revIn run-tree i ≡ rowOn base (run .lo + i) s .rev
-    unfolding rowAt revAt nodeAt nodeIn
+    unfolding revAt nodeAt nodeHeld meaning rowFrom
     in-run i h =
-        let e : base + run .lo * 48 + i * 48 ≡ base + (run .lo + i) * 48 = omega arith in
-        rev-in (base + run .lo * 48) (run .hi - run .lo) i s h ∙ ap (λ (k : ℕ). rowAt k s .rev) e
+        let e : base + run .lo * rowSize + i * rowSize ≡ base + (run .lo + i) * rowSize = omega arith in
+        rev-in (base + run .lo * rowSize) (run .hi - run .lo) i s h ∙ ap (λ (k : ℕ). rowAt k s .rev) e
 
     -- found there
     pub run-found : (p : Revision) (i : ℕ) → placeOf 0 p run-tree ≡ At i → (run .lo + i < n) × (rowOn base (run .lo + i) s .rev ≡ p)
     run-found p i e =
         let q = place-at i p run-tree e in
         let l = q .within in
-        let k = length-tree (base + run .lo * 48) (run .hi - run .lo) s in
+        let k = length-tree (base + run .lo * rowSize) (run .hi - run .lo) s in
         let h : i < run .hi - run .lo = omega arith in
         let w = run-within in
         (omega arith, sym (in-run i h) ∙ q .is)
 
     -- not found there, so nowhere among the rows
-    pub run-missing : (p : Revision) (i : ℕ) → suc (p .number .0) ≡ numberOn base j s → placeOf 0 p run-tree ≡ Gap i
+    run-missing : (p : Revision) (i : ℕ) → suc (p .number .0) ≡ numberOn base j s → placeOf 0 p run-tree ≡ Gap i
         → (m : ℕ) → m < n → sameRev p (rowOn base m s .rev) ≡ false
     unfolding sameRev
     run-missing p i below e m h = same-not (orderRev p (rowOn base m s .rev)) (λ q. not-here q (ltb m (run .lo)) refl (ltb m (run .hi)) refl)
@@ -257,7 +267,7 @@ module _ (base n : ℕ) (s : List ℕ) (o : Ordered base n s) where
         not-here q false x true y =
             let is = ltb-false m (run .lo) x in
             let up = ltb-true m (run .hi) y in
-            let k = length-tree (base + run .lo * 48) (run .hi - run .lo) s in
+            let k = length-tree (base + run .lo * rowSize) (run .hi - run .lo) s in
             let r : run .lo + (m - run .lo) ≡ m = omega arith in
             let t = in-run (m - run .lo) (omega arith) ∙ ap (λ (z : ℕ). rowOn base z s .rev) r in
             let g = found-here run-tree p (m - run .lo) (run-searchable (run .lo) (run .hi) (v .ordered) run-within .ascending) (omega arith) (rw t q) in
@@ -275,7 +285,7 @@ module _ (base n : ℕ) (s : List ℕ) (o : Ordered base n s) where
     Apart b = (missing (rowsAt base n s) (rowOn base j s) ≡ b) × ((m : ℕ) → m < n → isParentOf (rowOn base m s .rev) (rowOn base j s) ≡ false)
 
     -- or row i is the one
-    abbrev pub Linked : Parent → Type 0
+    abbrev Linked : Parent → Type 0
     Linked Unknown = Apart false
     Linked Missing = Apart true
     Linked (Among i) =
@@ -314,11 +324,21 @@ module _ (base n : ℕ) (s : List ℕ) (o : Ordered base n s) where
     linked-as none e = (rw e refl, λ m h. rw e refl)
     linked-as (some p) e = linked-some p e (parent-below (rowOn base j s) p (row-good j here .number) e) (placeOf 0 p run-tree) refl
 
-    pub linked : (r : Parent) → parentOn base run j s ≡ r → Linked r
+    linked : (r : Parent) → parentOn base run j s ≡ r → Linked r
     unfolding parentOn
     linked r e = subst Linked e (linked-as (parentOfRow (rowOn base j s)) refl)
 
 -- ---- what is sought
+
+-- the run for row j, by the numbers x and y of its end and of row j
+module _ (base j : ℕ) (run : Run) (s : List ℕ) (x y : ℕ) (ex : x ≡ numberOn base (run .hi) s) (ey : y ≡ numberOn base j s) where
+  pub run-stays : x ≡ y → run ≡ runOn base run j s
+  unfolding runOn
+  run-stays e = rw (eq-eqb (numberOn base (run .hi) s) (numberOn base j s) (sym ex ∙ (e ∙ ey)))
+
+  pub run-moves : (x ≡ y → ⊥) → record { lo = run .hi; hi = j } ≡ runOn base run j s
+  unfolding runOn
+  run-moves h = rw (ne-eqb (numberOn base (run .hi) s) (numberOn base j s) (λ e. h (ex ∙ (e ∙ sym ey))))
 
 pub parent-none : (base j : ℕ) (run : Run) (s : List ℕ) → rowOn base j s .flag ≡ 0 → Unknown ≡ parentOn base run j s
 unfolding parentOn parentOfRow
@@ -326,12 +346,12 @@ parent-none base j run s e = rw (eq-eqb (rowOn base j s .flag) 0 e)
 
 -- the revision of number x and hash h
 pub parent-sought : (base j : ℕ) (run : Run) (s : List ℕ) (x : ℕ) (h : List ℕ) → (rowOn base j s .flag ≡ 0 → ⊥) → x ≡ pred (numberOn base j s)
-    → h ≡ rowOn base j s .parent → among (run .lo) (placeOf 0 (revision x h) (treeAt (base + run .lo * 48) (run .hi - run .lo) s)) ≡ parentOn base run j s
+    → h ≡ rowOn base j s .parent → among (run .lo) (placeOf 0 (revision x h) (treeAt (base + run .lo * rowSize) (run .hi - run .lo) s)) ≡ parentOn base run j s
 unfolding parentOn parentOfRow
 parent-sought base j run s x h f a b =
     let e : revision x h ≡ revision (pred (numberOn base j s)) (rowOn base j s .parent) = ap₂ (λ (y : ℕ) (g : List ℕ). revision y g) a b in
     rw (ne-eqb (rowOn base j s .flag) 0 f)
-    (ap (λ (v : Revision). among (run .lo) (placeOf 0 v (treeAt (base + run .lo * 48) (run .hi - run .lo) s))) e)
+    (ap (λ (v : Revision). among (run .lo) (placeOf 0 v (treeAt (base + run .lo * rowSize) (run .hi - run .lo) s))) e)
 
 -- ---- the marks, one row further
 
@@ -348,37 +368,37 @@ or-false true b e = refl
 or-false false b e = e
 
 module _ (base n j : ℕ) (s ms : List ℕ) where
-  pub marks-same : Marks base n j s ms → ((m : ℕ) → m < n → isParentOf (rowOn base m s .rev) (rowOn base j s) ≡ false) → Marks base n (j + 1) s ms
-  marks-same k f = record {
-    size = k .size;
-    each = λ m h. k .each m h ∙ ap bit (sym (any-next base s (isParentOf (rowOn base m s .rev)) j ∙ or-false (any (isParentOf (rowOn base m s .rev)) (rowsAt base j s)) (isParentOf (rowOn base m s .rev) (rowOn base j s)) (f m h)));
-  }
+  abbrev is-parent : ℕ → Row → Bool
+  is-parent m = isParentOf (rowOn base m s .rev)
 
-  pub marks-set : (i : ℕ) → i < n → Marks base n j s ms → ((m : ℕ) → m < n → isParentOf (rowOn base m s .rev) (rowOn base j s) ≡ eqb m i)
-      → Marks base n (j + 1) s (set ms i 1)
+  -- row j is no child of row m, or it is one
+  same-any : (m : ℕ) → is-parent m (rowOn base j s) ≡ false → any (is-parent m) (rowsAt base j s) ≡ any (is-parent m) (rowsAt base (j + 1) s)
+  same-any m e = sym (any-next base s (is-parent m) j ∙ or-false (any (is-parent m) (rowsAt base j s)) (is-parent m (rowOn base j s)) e)
+
+  true-any : (m : ℕ) → is-parent m (rowOn base j s) ≡ true → true ≡ any (is-parent m) (rowsAt base (j + 1) s)
+  true-any m e = sym (any-next base s (is-parent m) j ∙ or-true (any (is-parent m) (rowsAt base j s)) (is-parent m (rowOn base j s)) e)
+
+  marks-same : Marks base n j s ms → ((m : ℕ) → m < n → is-parent m (rowOn base j s) ≡ false) → Marks base n (j + 1) s ms
+  marks-same k f = record { size = k .size; each = λ m h. k .each m h ∙ ap bit (same-any m (f m h)) }
+
+  marks-set : (i : ℕ) → i < n → Marks base n j s ms → ((m : ℕ) → m < n → is-parent m (rowOn base j s) ≡ eqb m i) → Marks base n (j + 1) s (set ms i 1)
   marks-set i l k f = record { size = length-set ms i 1 ∙ k .size; each = λ m h. go m h (eqb m i) refl }
     where
-      go : (m : ℕ) → m < n → (b : Bool) → eqb m i ≡ b → getD (set ms i 1) m 0 ≡ bit (any (isParentOf (rowOn base m s .rev)) (rowsAt base (j + 1) s))
+      go : (m : ℕ) → m < n → (b : Bool) → eqb m i ≡ b → getD (set ms i 1) m 0 ≡ bit (any (is-parent m) (rowsAt base (j + 1) s))
       go m h true q =
           let z = k .size in
-          let e = eqb-true m i q in
-          ap (λ (x : ℕ). getD (set ms i 1) x 0) e
-          ∙ (getD-set-same ms i 1 0 (omega arith)
-          ∙ ap bit (sym (any-next base s (isParentOf (rowOn base m s .rev)) j ∙ or-true (any (isParentOf (rowOn base m s .rev)) (rowsAt base j s)) (isParentOf (rowOn base m s .rev) (rowOn base j s)) (f m h ∙ q))))
-      go m h false q =
-          getD-set-other ms i m 1 0 (eqb-false m i q)
-          ∙ (k .each m h
-          ∙ ap bit (sym (any-next base s (isParentOf (rowOn base m s .rev)) j ∙ or-false (any (isParentOf (rowOn base m s .rev)) (rowsAt base j s)) (isParentOf (rowOn base m s .rev) (rowOn base j s)) (f m h ∙ q))))
+          ap (λ (x : ℕ). getD (set ms i 1) x 0) (eqb-true m i q) ∙ (getD-set-same ms i 1 0 (omega arith) ∙ ap bit (true-any m (f m h ∙ q)))
+      go m h false q = getD-set-other ms i m 1 0 (eqb-false m i q) ∙ (k .each m h ∙ ap bit (same-any m (f m h ∙ q)))
 
 module _ (base n j : ℕ) (s : List ℕ) (here : j < n) where
-  pub first-same : (first : ℕ) → FirstMissing base n j s first → missing (rowsAt base n s) (rowOn base j s) ≡ false → FirstMissing base n (j + 1) s first
+  first-same : (first : ℕ) → FirstMissing base n j s first → missing (rowsAt base n s) (rowOn base j s) ≡ false → FirstMissing base n (j + 1) s first
   first-same first f e = record {
     most = f .most;
     before = λ m h l. ⊎-elim (λ (q : m ≡ j). ap (λ (k : ℕ). missing (rowsAt base n s) (rowOn base k s)) q ∙ e) (λ (q : m < j). f .before m q l) (eq-or-lt-of-le (omega arith));
     at = f .at;
   }
 
-  pub first-more : (first : ℕ) → FirstMissing base n j s first → missing (rowsAt base n s) (rowOn base j s) ≡ true → FirstMissing base n (j + 1) s (min first j)
+  first-more : (first : ℕ) → FirstMissing base n j s first → missing (rowsAt base n s) (rowOn base j s) ≡ true → FirstMissing base n (j + 1) s (min first j)
   first-more first f e = go (leb first j) refl
     where
       go : (b : Bool) → leb first j ≡ b → FirstMissing base n (j + 1) s (min first j)
@@ -391,36 +411,71 @@ module _ (base n j : ℕ) (s : List ℕ) (here : j < n) where
           let k : min first j ≡ j = omega arith in
           rw k (record { most = omega arith; before = λ m h u. f .before m u (omega arith); at = λ u. e })
 
-pub first-none : (base n : ℕ) (s : List ℕ) → FirstMissing base n 0 s n
-first-none base n s = record { most = le-refl n; before = λ m h l. absurd (omega arith); at = λ h. absurd (omega arith) }
+-- the first j rows were looked at: the run serves them, each parent among them is marked, and `first` is the first
+-- whose parent is missing
+pub record Looked (base n : ℕ) (s : List ℕ) (j : ℕ) (run : Run) (ms : List ℕ) (first : ℕ) : Type 0 where
+  pub most : j ≤ n
+  pub serves : Serves base j run s
+  pub marked : Marked base n j s ms first
 
--- what each answer on row j's parent leaves
-module _ (base n : ℕ) (s : List ℕ) (o : Ordered base n s) (j : ℕ) (run : Run) (here : j < n) (v : Serves base (suc j) run s)
-    (level : numberOn base (run .hi) s ≡ numberOn base j s) (ms : List ℕ) (first : ℕ) (m : Marked base n j s ms first) where
-  pub next-unknown : parentOn base run j s ≡ Unknown → Marked base n (j + 1) s ms first
-  next-unknown e =
-      let k = linked base n s o j run here v level Unknown e in
-      record { marks = marks-same base n j s ms (m .marks) (k .1); missing = first-same base n j s here first (m .missing) (k .0) }
+-- how row j can be looked at, and what each answer on its parent leaves
+pub record Steps (base n : ℕ) (s : List ℕ) (j : ℕ) (run : Run) (ms : List ℕ) (first : ℕ) : Type 0 where
+  pub link : CanLink base j run s
+  pub unknown : parentOn base run j s ≡ Unknown → Looked base n s (j + 1) run ms first
+  pub missing : parentOn base run j s ≡ Missing → Looked base n s (j + 1) run ms (min first j)
+  pub among : (i : ℕ) → parentOn base run j s ≡ Among i → (i < n) × Looked base n s (j + 1) run (set ms i 1) first
 
-  pub next-missing : parentOn base run j s ≡ Missing → Marked base n (j + 1) s ms (min first j)
-  next-missing e =
-      let k = linked base n s o j run here v level Missing e in
-      record { marks = marks-same base n j s ms (m .marks) (k .1); missing = first-more base n j s here first (m .missing) (k .0) }
-
-  pub next-among : (i : ℕ) → parentOn base run j s ≡ Among i → (i < n) × Marked base n (j + 1) s (set ms i 1) first
-  next-among i e =
-      let k = linked base n s o j run here v level (Among i) e in
-      (k .0, record { marks = marks-set base n j s ms i (k .0) (m .marks) (k .2); missing = first-same base n j s here first (m .missing) (k .1) })
+pub steps : (base n : ℕ) (s : List ℕ) → Ordered base n s → (j : ℕ) (was run : Run) (ms : List ℕ) (first : ℕ) → j < n → Looked base n s j was ms first
+    → run ≡ runOn base was j s → Steps base n s j run ms first
+steps base n s o j was run ms first here l e =
+    let v = serves-run base n s o j was run here (l .serves) e in
+    let serves : Serves base (j + 1) run s = rw (add-one j) (v .0) in
+    let linked-so = linked base n s o j run here (v .0) (v .1) in
+    let marks = l .marked .marks in
+    let gone = l .marked .missing in
+    record {
+      link = record { n = n; ordered = o; here = here; serves = v .0; level = v .1 };
+      unknown = λ q. let k = linked-so Unknown q in record {
+        most = omega arith;
+        serves = serves;
+        marked = record { marks = marks-same base n j s ms marks (k .1); missing = first-same base n j s here first gone (k .0) };
+      };
+      missing = λ q. let k = linked-so Missing q in record {
+        most = omega arith;
+        serves = serves;
+        marked = record { marks = marks-same base n j s ms marks (k .1); missing = first-more base n j s here first gone (k .0) };
+      };
+      among = λ i q. let k = linked-so (Among i) q in (
+        k .0,
+        record {
+          most = omega arith;
+          serves = serves;
+          marked = record { marks = marks-set base n j s ms i (k .0) marks (k .2); missing = first-same base n j s here first gone (k .1) };
+        },
+      );
+    }
 
 -- before any row is looked at
-pub serves-none : (base : ℕ) (s : List ℕ) → Serves base 0 (record { lo = 0; hi = 0 }) s
-serves-none base s = record {
-  ordered = omega arith;
-  within = omega arith;
-  far = λ m h. absurd (omega arith);
-  below = λ m h. absurd (omega arith);
-  top = λ m h. absurd (omega arith);
+pub looked-none : (base n : ℕ) (s ms : List ℕ) → Marks base n 0 s ms → Looked base n s 0 (record { lo = 0; hi = 0 }) ms n
+looked-none base n s ms m = record {
+  most = omega arith;
+  serves = record {
+    ordered = omega arith;
+    within = omega arith;
+    far = λ m h. absurd (omega arith);
+    below = λ m h. absurd (omega arith);
+    top = λ m h. absurd (omega arith);
+  };
+  marked = record {
+    marks = m;
+    missing = record { most = le-refl n; before = λ m h l. absurd (omega arith); at = λ h. absurd (omega arith) };
+  };
 }
+
+-- after all of them
+pub looked-all : (base n : ℕ) (s : List ℕ) (j : ℕ) (run : Run) (ms : List ℕ) (first : ℕ) → n ≤ j → Looked base n s j run ms first → Marked base n n s ms first
+looked-all base n s j run ms first h l =
+    let m = l .most in let e : j ≡ n = omega arith in subst (λ (k : ℕ). Marked base n k s ms first) e (l .marked)
 
 pub marks-none : (base n : ℕ) (s ms : List ℕ) → ms ≡ replicate n 0 → Marks base n 0 s ms
 unfolding rowsAt pieces any
@@ -460,7 +515,7 @@ module _ (base n k : ℕ) (s : List ℕ) where
   links-end j h = rw (rows-none base j n s h)
 
   -- where parents are there, the kind decides
-  pub link-kind : (j : ℕ) → missing (rowsAt base n s) (rowOn base j s) ≡ false → badLink (rowsAt base n s) (rowOn base j s) ≡ misfit (rowsAt base n s) (rowOn base j s)
+  link-kind : (j : ℕ) → missing (rowsAt base n s) (rowOn base j s) ≡ false → badLink (rowsAt base n s) (rowOn base j s) ≡ misfit (rowsAt base n s) (rowOn base j s)
   unfolding badLink missing misfit
   link-kind j e = rw e
 
@@ -483,30 +538,3 @@ pub kind-says : (base n j : ℕ) (s ms : List ℕ) (kind : ℕ) → j < n → Ma
 kind-says base n j s ms kind h k e f =
     ap (λ (x : ℕ). pick (eqb (getD ms j 0) 1) (not (eqb x 0)) (eqb x 0)) (sym e)
     ∙ (mark-kind base n j s ms h k ∙ sym (link-kind base n 0 s j f))
-
--- ---- the documents one after the other
-
-pub size-links : (ws : List Row) → length (badLinks ws) ≡ length ws
-unfolding badLinks
-size-links ws = length-map ws (badLink ws)
-
-first-from : (k m : ℕ) (bs : List Bool) → firstTrue k bs ≡ none → firstTrue m bs ≡ none
-first-from k m bs e = none-true m bs (true-none k bs e)
-
-neither : (a b : Option ℕ) → orElse a b ≡ none → (a ≡ none) × (b ≡ none)
-neither none b e = (refl, e)
-neither (some x) b e = absurd (none≢some (sym e))
-
--- no row is bad by 25: neither one of the next document nor one after it
-module _ (s : List ℕ) (d r i k n : ℕ) (h : i < d) (e : entryAt i s .rows ≡ n) (q : k + n ≤ r)
-    (g : eachFrom (badRows none) (size-rows none) s d r i k ≡ none) where
-  both : (firstTrue k (badRows none (rowsAt (16 + 44 * d + 48 * k) n s)) ≡ none) × (eachFrom (badRows none) (size-rows none) s d r (i + 1) (k + n) ≡ none)
-  both =
-      neither (firstTrue k (badRows none (rowsAt (16 + 44 * d + 48 * k) n s))) (eachFrom (badRows none) (size-rows none) s d r (i + 1) (k + n))
-      (sym (each-next (badRows none) (size-rows none) s d r i k n h e q) ∙ g)
-
-  pub good-first : firstTrue 0 (badRows none (rowsAt (16 + 44 * d + 48 * k) n s)) ≡ none
-  good-first = first-from k 0 (badRows none (rowsAt (16 + 44 * d + 48 * k) n s)) (both .0)
-
-  pub good-next : eachFrom (badRows none) (size-rows none) s d r (i + 1) (k + n) ≡ none
-  good-next = both .1

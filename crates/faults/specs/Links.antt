@@ -8,18 +8,22 @@ use lib.Dec.{eqb}
 use lib.ListN.{length, getD, replicate}
 use Rattle.rules.specs.declared.Revision.{Revision}
 use Rattle.rules.specs.Choice.{pick, maybe, any}
-use Rattle.rules.specs.Image.{Row, firstTrue, badRows, parentOfRow, isParentOf, rowSize}
+use Rattle.rules.specs.Faults.{firstTrue, badRows, isParentOf}
+use Rattle.rules.specs.Image.{parentOfRow}
+use Rattle.rules.specs.Layout.{Row, rowSize}
 use Rattle.rules.specs.Order.{sameRev}
 use Rattle.rules.specs.Replica.{Tree}
 use Rattle.rules.specs.Room.{revisionsMost}
+use Rattle.tree.specs.declared.table.Body.{Body}
 use Rattle.tree.specs.declared.table.Found.{Found}
 use Rattle.tree.specs.declared.table.Found.the-variants.{At, Gap}
 use Rattle.tree.specs.Table.{treeAt, placeOf}
 use Rattle.faults.specs.declared.links.Run.{Run}
 use Rattle.faults.specs.declared.links.Parent.{Parent}
 use Rattle.faults.specs.declared.links.Parent.the-variants.{Unknown, Missing, Among}
-use Rattle.faults.specs.Judged.{rowsFault}
-use Rattle.faults.specs.Places.{rowAt, rowsAt, Listed}
+use Rattle.faults.specs.declared.Rule.the-variants.{Links}
+use Rattle.faults.specs.Places.{rowAt, rowsAt}
+use Rattle.faults.specs.Each.{CanTest}
 
 -- row m of those from base on, and its revision's number
 abbrev pub rowOn : ℕ → ℕ → List ℕ → Row
@@ -27,11 +31,6 @@ rowOn base m s = rowAt (base + m * rowSize) s
 
 abbrev pub numberOn : ℕ → ℕ → List ℕ → ℕ
 numberOn base m s = rowOn base m s .rev .number .0
-
--- v is that number
-pub record NumberOn (base m : ℕ) (s : List ℕ) (v : ℕ) : Type 0 where
-  pub is : v ≡ numberOn base m s
-  pub small : v < 4294967296
 
 -- what 25 leaves: the n rows of a document are good and ascend
 pub record Ordered (base n : ℕ) (s : List ℕ) : Type 0 where
@@ -112,16 +111,6 @@ pub record CanJudge (base n k first : ℕ) (s ms : List ℕ) : Type 0 where
   pub most : k + n ≤ revisionsMost
   pub marked : Marked base n n s ms first
 
--- n ordered rows, and k before them
-pub record HasTree (base n k : ℕ) (s : List ℕ) : Type 0 where
-  pub ordered : Ordered base n s
-  pub most : k + n ≤ revisionsMost
-
-pub record CanFind (base n k : ℕ) (s ms : List ℕ) : Type 0 where
-  pub tree : HasTree base n k s
+pub record CanFind (b : Body) (k : ℕ) (s ms : List ℕ) : Type 0 where
+  pub rows : CanTest Links b k s
   pub blank : ms ≡ replicate revisionsMost 0
-
--- what 23 and 25 leave
-pub record Sorted (s : List ℕ) : Type 0 where
-  pub listed : Listed s
-  pub good : rowsFault s ≡ none

@@ -2,13 +2,17 @@
 use mathlib.Core.Path.{_≡_}
 use mathlib.Core.List.{List, [], _∷_, map}
 use mathlib.Core.Option.{Option, none, some}
-use Prim.Native.Nat.{ℕ, zero, suc, _+_, _*_, _≤_, _<_}
+use Prim.Native.Nat.{ℕ, zero, suc, _+_, _*_, _≤_}
 use lib.ListN.{length, drop}
 use Rattle.rules.specs.Bytes.{part, pieces}
 use Rattle.rules.specs.declared.Revision.{Revision}
-use Rattle.rules.specs.Image.{Entry, entryOf, Row, rowOf, headOf, entriesOf, sumRows, headSize, entrySize, rowSize, totalLength}
+use Rattle.rules.specs.Faults.{sumRows}
+use Rattle.rules.specs.Image.{entriesOf, totalLength}
+use Rattle.rules.specs.Layout.{Entry, entryOf, Row, rowOf, headOf, entrySize, rowSize}
 use Rattle.rules.specs.Replica.{Id}
 use Rattle.rules.specs.Room.{documentsMost, revisionsMost, idMost}
+use Rattle.layout.specs.Fields.{entryPlace}
+use Rattle.tree.specs.declared.table.Body.{Body}
 use Rattle.faults.specs.declared.Place.{Place}
 use Rattle.faults.specs.declared.Place.the-variants.{Nowhere, At}
 
@@ -22,10 +26,14 @@ pub record Headed (s : List ℕ) : Type 0 where
   pub revisions : headOf s .revisions ≤ revisionsMost
   pub size : length s ≡ totalLength (headOf s .documents) (headOf s .revisions)
 
+-- where row k begins behind d entries
+abbrev pub rowPlace : ℕ → ℕ → ℕ
+rowPlace d k = entryPlace d + rowSize * k
+
 -- ---- entries
 
-unfoldable pub entryAt : ℕ → List ℕ → Entry
-entryAt i s = entryOf (part (headSize + entrySize * i) entrySize s)
+abbrev pub entryAt : ℕ → List ℕ → Entry
+entryAt i s = entryOf (part (entryPlace i) entrySize s)
 
 -- the id before entry i's
 abbrev pub idBefore : ℕ → List ℕ → Option Id
@@ -39,18 +47,13 @@ FitsBefore (suc i) s = entryAt i s .size ≤ idMost
 
 -- entry i is there, and its id can be compared with the one before
 pub record HasEntry (i : ℕ) (s : List ℕ) : Type 0 where
-  pub within : headSize + entrySize * i + entrySize ≤ length s
+  pub within : entryPlace i + entrySize ≤ length s
   pub before : FitsBefore i s
 
 -- the same, and its own id is no longer than an id can be
 pub record HasId (i : ℕ) (s : List ℕ) : Type 0 where
   pub entry : HasEntry i s
   pub most : entryAt i s .size ≤ idMost
-
--- n is the id length that entry i gives
-pub record IdSize (i : ℕ) (s : List ℕ) (n : ℕ) : Type 0 where
-  pub is : n ≡ entryAt i s .size
-  pub small : n < 256
 
 abbrev pub seqAt : ℕ → List ℕ → ℕ
 seqAt i s = entryAt i s .seq
@@ -60,16 +63,6 @@ unfoldable pub seqsBefore : ℕ → List ℕ → List ℕ
 seqsBefore zero s = []
 seqsBefore (suc i) s = seqAt i s ∷ seqsBefore i s
 
--- q is the own sequence of entry i
-pub record OwnSeq (i : ℕ) (s : List ℕ) (q : ℕ) : Type 0 where
-  pub is : q ≡ seqAt i s
-  pub small : q < 4294967296
-
--- n is the number of rows that entry i gives
-pub record RowCount (i : ℕ) (s : List ℕ) (n : ℕ) : Type 0 where
-  pub is : n ≡ entryAt i s .rows
-  pub small : n < 65536
-
 -- what 23 leaves: the entries' rows are all rows
 pub record Listed (s : List ℕ) : Type 0 where
   pub headed : Headed s
@@ -77,19 +70,17 @@ pub record Listed (s : List ℕ) : Type 0 where
 
 -- ---- rows
 
-unfoldable pub rowAt : ℕ → List ℕ → Row
+abbrev pub rowAt : ℕ → List ℕ → Row
 rowAt at s = rowOf (part at rowSize s)
 
 -- n rows from base on
 unfoldable pub rowsAt : ℕ → ℕ → List ℕ → List Row
 rowsAt base n s = map rowOf (pieces n rowSize (drop base s))
 
+abbrev pub rowsIn : Body → List ℕ → List Row
+rowsIn b s = rowsAt (b .base) (b .rows) s
+
 -- the revision of the row before row j
 abbrev pub revBefore : ℕ → ℕ → List ℕ → Option Revision
 revBefore base zero s = none
 revBefore base (suc j) s = some (rowAt (base + j * rowSize) s .rev)
-
--- n rows from base on are there, and so are k before them
-pub record HasRows (base n k : ℕ) (s : List ℕ) : Type 0 where
-  pub within : base + n * rowSize ≤ length s
-  pub most : k + n ≤ revisionsMost

@@ -1,29 +1,23 @@
 // 23: the contents, sequences aside.
 use crate::Place;
-use crate::head::documents;
-use crate::head::revisions;
-use octets::number::get2;
-use octets::number::get4;
+use layout::COUNT_IN;
+use layout::ENTRY;
+use layout::HEAD;
+use layout::ID_IN;
+use layout::ROW;
+use layout::entry::id;
+use layout::entry::id_size;
+use layout::entry::place;
+use layout::entry::rows;
+use layout::head::documents;
+use layout::head::revisions;
 use octets::order::all_zero;
 use octets::order::order_bytes;
-use rules::ENTRY;
-use rules::HEAD;
+use rules::ID_MOST;
 use rules::Order;
-use rules::ROW;
 ghost use mathlib.Core.Path.{_≡_};
-ghost use mathlib.Core.Option.{none};
-ghost use Prim.Native.Nat.{ℕ, _+_, _*_, _≤_};
-ghost use lib.ListN.{length};
-ghost use Rattle.rules.specs.Image.{badContents, badEntry, notAbove, headSize, entrySize};
-ghost use Rattle.faults.specs.Places.{placed, Headed, entryAt, idBefore, HasEntry, HasId, IdSize, RowCount};
-
-// The id length that entry i gives.
-fn id_size(s: &[u8], i: usize) -> usize
-    requires { ⌜ headSize + entrySize * i + entrySize ≤ length (now s) ⌝ }
-    ensures { λ r. ⌜ IdSize i (now (s .entry)) r ⌝ }
-{
-    s[HEAD + ENTRY * i] as usize
-}
+ghost use Rattle.rules.specs.Faults.{badContents, badEntry, notAbove};
+ghost use Rattle.faults.specs.Places.{placed, Headed, entryAt, idBefore, HasEntry, HasId};
 
 // The id of entry i is not above the one before it.
 fn id_bad(s: &[u8], i: usize) -> bool
@@ -33,53 +27,39 @@ fn id_bad(s: &[u8], i: usize) -> bool
     if i == 0 {
         return false;
     }
-    let b = HEAD + ENTRY * i + 1;
-    let a = b - ENTRY;
-    let e = a + id_size(s, i - 1);
-    let f = b + id_size(s, i);
-    match order_bytes(&s[a..e], &s[b..f]) {
-        Order::Less => false,
-        Order::Equal => true,
-        Order::Greater => true,
+    let at = HEAD + ENTRY * i;
+    if let Order::Less = order_bytes(id(s, at - ENTRY), id(s, at)) {
+        return false;
     }
+    true
 }
 
-// An entry that has to give `place` as its first row's.
-fn entry_bad(s: &[u8], i: usize, place: usize) -> bool
+// An entry that has to give `due` as its first row's place.
+fn entry_bad(s: &[u8], i: usize, due: usize) -> bool
     requires { ⌜ HasEntry i (now s) ⌝ }
-    ensures { λ r. ⌜ r ≡ badEntry place (idBefore i (now (s .entry))) (entryAt i (now (s .entry))) ⌝ }
+    ensures { λ r. ⌜ r ≡ badEntry due (idBefore i (now (s .entry))) (entryAt i (now (s .entry))) ⌝ }
 {
     let at = HEAD + ENTRY * i;
-    let n = id_size(s, i);
+    let n = id_size(s, at);
     if n == 0 {
         return true;
     }
-    if 32 < n {
+    if ID_MOST < n {
         return true;
     }
-    let a = at + 1 + n;
-    let e = at + 33;
+    // What fills the id and the byte after it are zero.
+    let a = at + ID_IN + n;
+    let e = at + COUNT_IN;
     if !all_zero(&s[a..e]) {
         return true;
     }
-    if s[e] != 0 {
+    if rows(s, at) == 0 {
         return true;
     }
-    if row_count(s, i) == 0 {
-        return true;
-    }
-    if get4(s, at + 40) as usize != place {
+    if place(s, at) as usize != due {
         return true;
     }
     id_bad(s, i)
-}
-
-// How many rows entry i gives.
-pub(crate) fn row_count(s: &[u8], i: usize) -> usize
-    requires { ⌜ headSize + entrySize * i + entrySize ≤ length (now s) ⌝ }
-    ensures { λ r. ⌜ RowCount i (now (s .entry)) r ⌝ }
-{
-    get2(s, HEAD + ENTRY * i + 34)
 }
 
 pub(crate) fn contents_fault(s: &[u8]) -> Place
@@ -87,16 +67,16 @@ pub(crate) fn contents_fault(s: &[u8]) -> Place
     ensures { λ r. ⌜ placed r ≡ badContents (now (s .entry)) ⌝ }
 {
     let d = documents(s);
-    let mut rows = 0;
+    let mut sum = 0;
     let mut i = 0;
     while i < d {
-        if entry_bad(s, i, HEAD + ENTRY * d + ROW * rows) {
+        if entry_bad(s, i, HEAD + ENTRY * d + ROW * sum) {
             return Place::At(i);
         }
-        rows += row_count(s, i);
+        sum += rows(s, HEAD + ENTRY * i);
         i += 1;
     }
-    if rows == revisions(s) {
+    if sum == revisions(s) {
         return Place::Nowhere;
     }
     Place::At(d)

@@ -1,21 +1,21 @@
 // Faults: what is wrong with the bytes of an image, and where: the refusals 20 to 26.
-// It takes every input of every length and writes nothing. It uses the crates rules and octets, and the
-// laws of the crate images. Rows are searched by the crate tree.
+// It takes every input of every length and writes nothing. It uses the crates rules, octets and layout, and
+// the laws of the crate images. Rows are searched by the crate tree.
 use crate::contents::contents_fault;
+use crate::each::rule_fault;
 use crate::head::head_bad;
-use crate::links::links_fault;
-use crate::rows::rows_fault;
 use crate::sequence::sequence_fault;
-use octets::number::get2;
+use layout::HEAD;
+use layout::head::edition;
 use rules::Fault;
-use rules::HEAD;
 ghost use mathlib.Core.Path.{_≡_};
 ghost use Rattle.rules.specs.Choice.{firstThat};
-ghost use Rattle.rules.specs.Image.{faults};
+ghost use Rattle.rules.specs.Faults.{faults};
 ghost use Rattle.faults.specs.Places.{Headed};
-ghost use Rattle.faults.specs.Judged.{judged, bodyFault};
+ghost use Rattle.faults.specs.Judged.{judged, bodyFault, NumberOf};
 
 mod contents;
+mod each;
 mod head;
 mod links;
 mod rows;
@@ -27,10 +27,31 @@ enum Place {
     At(usize),
 }
 
+// What is asked of a document's rows: 25, or 26 where 25 finds nothing.
+enum Rule {
+    Rows,
+    Links,
+}
+
 // What is wrong with an image, and where.
 pub enum Judged {
     Fine,
     Bad(Fault, usize),
+}
+
+// The number of a fault.
+pub fn fault_number(f: Fault) -> u32
+    ensures { λ n. ⌜ NumberOf f n ⌝ }
+{
+    match f {
+        Fault::TooShort => 20,
+        Fault::BadEdition => 21,
+        Fault::BadHead => 22,
+        Fault::BadContents => 23,
+        Fault::BadSequence => 24,
+        Fault::BadRow => 25,
+        Fault::BadParent => 26,
+    }
 }
 
 // 23 to 26, in this order.
@@ -44,10 +65,10 @@ fn body_fault(s: &[u8]) -> Judged
     if let Place::At(p) = sequence_fault(s) {
         return Judged::Bad(Fault::BadSequence, p);
     }
-    if let Place::At(p) = rows_fault(s) {
+    if let Place::At(p) = rule_fault(s, Rule::Rows) {
         return Judged::Bad(Fault::BadRow, p);
     }
-    if let Place::At(p) = links_fault(s) {
+    if let Place::At(p) = rule_fault(s, Rule::Links) {
         return Judged::Bad(Fault::BadParent, p);
     }
     Judged::Fine
@@ -60,7 +81,7 @@ pub fn fault(s: &[u8]) -> Judged
     if s.len() < HEAD {
         return Judged::Bad(Fault::TooShort, 0);
     }
-    if get2(s, 0) != 1 {
+    if edition(s) != 1 {
         return Judged::Bad(Fault::BadEdition, 0);
     }
     if head_bad(s) {

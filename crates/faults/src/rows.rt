@@ -1,27 +1,30 @@
 // 25: each row by itself, and the order of a document's rows.
 use crate::Place;
-use crate::contents::row_count;
-use crate::head::documents;
-use octets::number::get2;
-use octets::number::get4;
-use octets::number::get8;
+use layout::ROW;
+use layout::row::hash;
+use layout::row::kind;
+use layout::row::known;
+use layout::row::label;
+use layout::row::number;
+use layout::row::parent;
+use layout::row::row_zero;
 use octets::order::all_zero;
-use octets::order::order_hash_at;
-use octets::run::get_hash;
-use rules::ENTRY;
-use rules::HEAD;
 use rules::Order;
-use rules::ROW;
 use rules::RevNumber;
+use tree::row::compare_at;
+use tree::table::Body;
 ghost use mathlib.Core.Path.{_≡_};
 ghost use mathlib.Core.Bool.{_||_, _&&_, not};
-ghost use mathlib.Core.Option.{none, some};
-ghost use Prim.Native.Nat.{ℕ, _+_, _-_, _*_, _≤_, _<_};
+ghost use mathlib.Core.Option.{none};
+ghost use Prim.Native.Nat.{_+_, _*_, _≤_};
 ghost use lib.Dec.{eqb};
 ghost use lib.ListN.{length};
-ghost use Rattle.rules.specs.Image.{firstTrue, badRow, badRows, rowNotAbove, allZero, rowSize};
-ghost use Rattle.faults.specs.Judged.{rowsFault};
-ghost use Rattle.faults.specs.Places.{placed, Listed, rowAt, rowsAt, revBefore, HasRows};
+ghost use Rattle.rules.specs.Bytes.{allZero};
+ghost use Rattle.rules.specs.Faults.{firstTrue, badRow, badRows, rowNotAbove};
+ghost use Rattle.rules.specs.Layout.{rowSize};
+ghost use Rattle.faults.specs.declared.Rule.the-variants.{Rows};
+ghost use Rattle.faults.specs.Places.{placed, rowAt, rowsIn, revBefore};
+ghost use Rattle.faults.specs.Each.{CanTest};
 
 // A parent at number 1, or the hash of a parent that is not known.
 fn parent_bad(s: &[u8], at: usize, flag: u8, number: RevNumber) -> bool
@@ -32,9 +35,8 @@ fn parent_bad(s: &[u8], at: usize, flag: u8, number: RevNumber) -> bool
         return number.0 == 1;
     }
     if flag == 0 {
-        let a = at + 24;
-        let e = at + 40;
-        return !all_zero(&s[a..e]);
+        let above = parent(s, at);
+        return !all_zero(&above);
     }
     false
 }
@@ -47,7 +49,7 @@ fn label_bad(s: &[u8], at: usize, kind: u8) -> bool
     if kind == 1 {
         return false;
     }
-    get8(s, at + 40) != 0
+    label(s, at) != 0
 }
 
 // The row at `at` by itself.
@@ -55,28 +57,29 @@ fn row_bad(s: &[u8], at: usize) -> bool
     requires { ⌜ at + rowSize ≤ length (now s) ⌝ }
     ensures { λ r. ⌜ r ≡ badRow (rowAt at (now (s .entry))) ⌝ }
 {
-    let number = RevNumber(get4(s, at));
-    let kind = s[at + 20];
-    let flag = s[at + 21];
-    if 2 < kind {
+    let own = number(s, at);
+    let k = kind(s, at);
+    let flag = known(s, at);
+    if 2 < k {
         return true;
     }
     if 1 < flag {
         return true;
     }
-    if get2(s, at + 22) != 0 {
+    if row_zero(s, at) != 0 {
         return true;
     }
-    if number.0 == 0 {
+    if own.0 == 0 {
         return true;
     }
-    if parent_bad(s, at, flag, number) {
+    if parent_bad(s, at, flag, own) {
         return true;
     }
-    label_bad(s, at, kind)
+    label_bad(s, at, k)
 }
 
-// Row j of the rows from base on is not above the one before it.
+// Row j of the rows from base on is not above the one before it. Most numbers ascend, and their hashes need not be
+// read.
 fn order_bad(s: &[u8], base: usize, j: usize) -> bool
     requires { ⌜ base + j * rowSize + rowSize ≤ length (now s) ⌝ }
     ensures { λ r. ⌜ r ≡ rowNotAbove (revBefore base j (now (s .entry))) (rowAt (base + j * rowSize) (now (s .entry)) .rev) ⌝ }
@@ -86,26 +89,24 @@ fn order_bad(s: &[u8], base: usize, j: usize) -> bool
     }
     let b = base + j * ROW;
     let a = b - ROW;
-    let x = RevNumber(get4(s, a));
-    let y = RevNumber(get4(s, b));
+    let x = number(s, a);
+    let y = number(s, b);
     if x.0 < y.0 {
         return false;
     }
-    if y.0 < x.0 {
-        return true;
+    if let Order::Less = compare_at(x, hash(s, a), s, b) {
+        return false;
     }
-    match order_hash_at(get_hash(s, a + 4), s, b + 4) {
-        Order::Less => false,
-        Order::Equal => true,
-        Order::Greater => true,
-    }
+    true
 }
 
-// The first bad one of a document's n rows, of which the first is the k-th of all.
-fn rows_in(s: &[u8], base: usize, n: usize, k: usize) -> Place
-    requires { ⌜ HasRows base n k (now s) ⌝ }
-    ensures { λ r. ⌜ placed r ≡ firstTrue k (badRows none (rowsAt base n (now (s .entry)))) ⌝ }
+// The first bad one of a document's rows, of which the first is the k-th of all.
+pub(crate) fn rows_in(s: &[u8], body: Body, k: usize) -> Place
+    requires { ⌜ CanTest Rows body k (now s) ⌝ }
+    ensures { λ r. ⌜ placed r ≡ firstTrue k (badRows none (rowsIn body (now (s .entry)))) ⌝ }
 {
+    let base = body.base;
+    let n = body.rows;
     let mut j = 0;
     while j < n {
         if row_bad(s, base + j * ROW) {
@@ -115,28 +116,6 @@ fn rows_in(s: &[u8], base: usize, n: usize, k: usize) -> Place
             return Place::At(k + j);
         }
         j += 1;
-    }
-    Place::Nowhere
-}
-
-pub(crate) fn rows_fault(s: &[u8]) -> Place
-    requires { ⌜ Listed (now s) ⌝ }
-    ensures { λ r. ⌜ placed r ≡ rowsFault (now (s .entry)) ⌝ }
-{
-    let d = documents(s);
-    let mut k = 0;
-    let mut i = 0;
-    while i < d {
-        let n = row_count(s, i);
-        let first = k;
-        k += n;
-        i += 1;
-        match rows_in(s, HEAD + ENTRY * d + ROW * first, n, first) {
-            Place::At(p) => {
-                return Place::At(p);
-            }
-            Place::Nowhere => {}
-        }
     }
     Place::Nowhere
 }

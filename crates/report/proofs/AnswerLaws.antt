@@ -1,37 +1,24 @@
 -- A report handed over to a lent buffer, and the listing of the rules as the promise gives it. Assumes nothing.
 use mathlib.Core.Path.{_≡_, refl, sym, ap, _∙_, subst}
-use mathlib.Core.List.{List, [], _++_}
-use Prim.Native.Nat.{ℕ, _+_, _≤_, _<_}
-use native.Mathlib.Nat.{zero-add}
+use mathlib.Core.List.{List, []}
+use Prim.Native.Nat.{ℕ, _≤_}
 use native.Mathlib.Omega.{arith}
-use lib.ListN.{length, take, drop}
+use lib.ListN.{length, take}
 use lib.Seq.{take-at}
-use borrow.Author.Tests.{lt-ltb, le-ltb}
 use Rattle.rules.specs.declared.Answered.{Answered}
-use Rattle.rules.specs.declared.Answered.the-variants.{Count, Refused}
-use Rattle.rules.specs.declared.Refusal.the-variants.{ShortBuffer}
-use Rattle.rules.specs.Choice.{firstThat}
+use Rattle.rules.specs.declared.Answered.the-variants.{Count}
 use Rattle.rules.specs.Image.{image}
 use Rattle.rules.specs.Outcome.{Does}
-use Rattle.rules.specs.Read.{front, shortBuffer, reads}
+use Rattle.rules.specs.Read.{reads}
 use Rattle.rules.specs.Report.{text, report, readReport}
-use Rattle.rules.proofs.Readings.{lots, listing}
+use Rattle.rules.proofs.Readings.{lots}
+use Rattle.rules.proofs.ReadingsReport.{listing}
 use Rattle.octets.specs.Splice.{splice}
 use Rattle.octets.proofs.SpliceLaws.{length-splice}
+use Rattle.reads.proofs.AnswerLaws.{reads-answers}
 use Rattle.report.specs.Lines.{PutWithin}
 
-module _ (n : ℕ) (bytes out : List ℕ) where
-  pub too-short : length out < length bytes → Does (reads [] n bytes out) (Refused ShortBuffer) out
-  unfolding reads shortBuffer firstThat
-  too-short h = rw (lt-ltb (length out) (length bytes) h) (record { answers = refl; leaves = refl })
-
-  pub fits-in : (after : List ℕ) → length bytes ≤ length out → after ≡ splice out 0 bytes → Does (reads [] n bytes out) (Count n) after
-  unfolding reads shortBuffer firstThat front splice
-  fits-in after h e =
-      rw (le-ltb (length out) (length bytes) h)
-      (record { answers = refl; leaves = e ∙ ap (λ (k : ℕ). bytes ++ drop k out) (zero-add (length bytes)) })
-
-pub front-taken : (out bytes : List ℕ) (n : ℕ) → length bytes ≡ n → take n (splice out 0 bytes) ≡ bytes
+front-taken : (out bytes : List ℕ) (n : ℕ) → length bytes ≡ n → take n (splice out 0 bytes) ≡ bytes
 unfolding splice
 front-taken out bytes n e = take-at bytes _ n e
 
@@ -40,7 +27,7 @@ module _ {bound : ℕ} {x t t′ : List ℕ} {n : ℕ} (p : PutWithin bound x t 
   pub still-long : bound ≤ length t → length t′ ≡ length t
   still-long h = ap length (p .put .is) ∙ length-splice t 0 x (omega (arith, p .most, p .put .ends))
 
-  pub text-taken : take n t′ ≡ x
+  text-taken : take n t′ ≡ x
   text-taken = ap (take n) (p .put .is) ∙ front-taken t x n (omega (arith, p .put .ends))
 
   -- handed over, it is the answer
@@ -60,7 +47,7 @@ unfolding readReport
 lot-listing out after r h d =
     let n : length (report (image lots)) ≡ 106 = ap length listing ∙ (unfold text in refl) in
     let k : length (report (image lots)) ≤ length out = omega arith in
-    let f = fits-in (length (report (image lots))) (report (image lots)) out (splice out 0 (report (image lots))) k refl in (
+    let f = reads-answers (length (report (image lots))) (report (image lots)) out _ (splice out 0 (report (image lots))) k refl refl in (
       d .answers ∙ (sym (f .answers) ∙ ap Count n),
-      ap (take 106) (d .leaves ∙ sym (f .leaves)) ∙ (front-taken out (report (image lots)) 106 n ∙ listing),
+      ap (take 106) (d .left ∙ sym (f .left)) ∙ (front-taken out (report (image lots)) 106 n ∙ listing),
     )

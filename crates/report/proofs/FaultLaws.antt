@@ -14,7 +14,9 @@ use Rattle.rules.specs.declared.Fault.the-variants.{TooShort, BadEdition, BadHe
 use Rattle.rules.specs.declared.Revision.{Revision}
 use Rattle.rules.specs.Bytes.{part, pieces}
 use Rattle.rules.specs.Choice.{pick, orElse, firstThat}
-use Rattle.rules.specs.Image.{Head, Entry, Row, headSize, entrySize, rowSize, headOf, entryOf, rowOf, entriesOf, rowsOf, deal, sumRows, firstTrue, badHead, badEntries, badContents, badSeqs, largest, badSequence, badRows, inEach, badLink, badLinks, at, faults, edition, totalLength}
+use Rattle.rules.specs.Faults.{sumRows, firstTrue, badHead, badEntries, badContents, badSeqs, largest, badSequence, badRows, inEach, badLink, badLinks, at, faults}
+use Rattle.rules.specs.Image.{entriesOf, rowsOf, deal, edition, totalLength}
+use Rattle.rules.specs.Layout.{Head, Entry, Row, headSize, entrySize, rowSize, headOf, entryOf, rowOf}
 use Rattle.rules.specs.Replica.{Id}
 use Rattle.rules.specs.Report.{refusedText, report, inputMost, printed}
 use Rattle.rules.specs.Room.{documentsMost, revisionsMost}

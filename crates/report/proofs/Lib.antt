@@ -1,5 +1,4 @@
 -- Laws of the report, and that each public function has one outcome.
-pub mod LengthLaws
 pub mod PutLaws
 pub mod WinnerLaws
 pub mod StandingLaws

@@ -5,9 +5,10 @@ use Prim.Native.Nat.{ℕ, _+_, _-_, _≤_}
 use native.Mathlib.Omega.{arith}
 use lib.ListN.{length, length-append}
 use Rattle.rules.specs.declared.Fault.{Fault}
+use Rattle.rules.specs.declared.Seq.{Seq}
 use Rattle.rules.specs.Refusal.{faultNumber}
 use Rattle.rules.specs.Replica.{Replica, revisionsHeld}
-use Rattle.rules.specs.Report.{decimal, text, headText, refusedText}
+use Rattle.rules.specs.Report.{decimal, text, headText, refusedText, seqWord, documentsWord, revisionsWord, leavesWord, conflictsWord, refusedWord, atWord, newline}
 use Rattle.octets.specs.Splice.{splice}
 use Rattle.octets.proofs.SpliceLaws.{chain}
 use Rattle.text.specs.Text.{Put}
@@ -27,17 +28,17 @@ put-as {a} {b} {s} {t} {at} {n} e p = subst (λ (l : List ℕ). Put l s at n t) 
 
 -- ---- the lines as they are put together
 
-pub head-joined : (r : Replica) (q d n : ℕ) → q ≡ r .seq .0 → d ≡ length (r .documents) → n ≡ revisionsHeld (r .documents)
-    → (((text "seq " ++ decimal q) ++ (text " documents " ++ decimal d)) ++ (text " revisions " ++ decimal n)) ++ text "\n" ≡ headText r
+pub head-joined : (r : Replica) {q : Seq} {d n : ℕ} → q ≡ r .seq → d ≡ length (r .documents) → n ≡ revisionsHeld (r .documents)
+    → (((text seqWord ++ decimal (q .0)) ++ (text documentsWord ++ decimal d)) ++ (text revisionsWord ++ decimal n)) ++ text newline ≡ headText r
 unfolding headText
-head-joined r q d n e f g = rw (sym e, sym f, sym g) (simp append-assoc)
+head-joined r e f g = rw (sym e, sym f, sym g) (simp append-assoc)
 
 pub counts-joined : (n m : ℕ) → n ≡ m + 1
-    → ((text " leaves " ++ decimal n) ++ (text " conflicts " ++ decimal m)) ++ text "\n" ≡ countsText n
+    → ((text leavesWord ++ decimal n) ++ (text conflictsWord ++ decimal m)) ++ text newline ≡ countsText n
 unfolding countsText
 counts-joined n m e = let k : n - 1 ≡ m = omega arith in rw k (simp append-assoc)
 
-pub refused-joined : (f : Fault × ℕ) (n : ℕ) → n ≡ faultNumber (f .0)
-    → ((text "refused " ++ decimal n) ++ (text " at " ++ decimal (f .1))) ++ text "\n" ≡ refusedText f
+pub refused-joined : (f : Fault × ℕ) {n : ℕ} → n ≡ faultNumber (f .0)
+    → ((text refusedWord ++ decimal n) ++ (text atWord ++ decimal (f .1))) ++ text newline ≡ refusedText f
 unfolding refusedText
-refused-joined f n e = rw (sym e) (simp append-assoc)
+refused-joined f e = rw (sym e) (simp append-assoc)

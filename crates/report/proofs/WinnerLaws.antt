@@ -1,9 +1,9 @@
--- Every document has a winner, and its conflicts are one fewer than its leaves. Assumes nothing.
-use mathlib.Core.Path.{_≡_, refl, sym, ap, _∙_, subst}
+-- A document's conflicts are one fewer than its leaves. Assumes nothing.
+use mathlib.Core.Path.{_≡_, refl, sym, ap, _∙_}
 use mathlib.Core.List.{List, [], _∷_, _++_}
 use mathlib.Core.Logic.{_⊎_, inl, inr}
 use mathlib.Core.Option.{Option, none, some}
-use Prim.Native.Nat.{suc, _+_, _-_, _≤_, _<_}
+use Prim.Native.Nat.{suc, _+_, _-_}
 use native.Mathlib.Omega.{arith}
 use lib.ListN.{length}
 use Rattle.rules.specs.declared.Content.{Content}
@@ -13,71 +13,14 @@ use Rattle.rules.specs.declared.Revision.{Revision}
 use Rattle.rules.specs.Choice.{maybe, pick}
 use Rattle.rules.specs.Map.{Ascending}
 use Rattle.rules.specs.Order.{orderRev, isEqual, sameRev}
-use Rattle.rules.specs.Read.{LeafOf, leafIn, leaves, higher, highest, winner, notAt, conflicts}
-use Rattle.rules.specs.Replica.{Tree, HasContent, Leaf, IsTree}
+use Rattle.rules.specs.Read.{LeafOf, leafIn, leaves, winner, notAt, conflicts}
+use Rattle.rules.specs.Replica.{Tree, IsTree}
 use Rattle.rules.specs.Union.{In}
-use Rattle.rules.proofs.OrderLaws.{revOrder, no-less-self, less-orderN, less≢equal, orderRev-same}
-use Rattle.union.proofs.Count.{below-all, in-find, find-in}
+use Rattle.rules.proofs.OrderLaws.{revOrder, less≢equal, orderRev-same}
+use Rattle.union.proofs.Count.{below-all}
 use Rattle.union.proofs.Lists.{in-cases}
-use Rattle.union.proofs.Trees.{Entry}
-use Rattle.union.proofs.Winners.{leafOf, leaves-out, content-leaf, highest-in}
-
--- ---- the last revision is a leaf
-
--- the last of a list that is not empty: no other is above it
-record Last (t : Tree) : Type 0 where
-  entry : Entry
-  within : In entry t
-  top : (y : Entry) → In y t → orderRev (entry .0) (y .0) ≡ Less → ⊥
-
-last-of : (t : Tree) → Ascending orderRev t → 1 ≤ length t → Last t
-last-of [] s h = absurd (omega arith)
-last-of (x ∷ []) s h = record { entry = x; within = inl refl; top = alone }
-  where
-    alone : (y : Entry) → In y (x ∷ []) → orderRev (x .0) (y .0) ≡ Less → ⊥
-    alone y (inl e) l = no-less-self revOrder (x .0) (subst (λ (z : Entry). orderRev (x .0) (z .0) ≡ Less) e l)
-    alone y (inr m) l = m
-last-of (x ∷ z ∷ t) s h = let r = last-of (z ∷ t) (s .1) (omega arith) in record { entry = r .entry; within = inr (r .within); top = still r }
-  where
-    still : (r : Last (z ∷ t)) (y : Entry) → In y (x ∷ z ∷ t) → orderRev (r .entry .0) (y .0) ≡ Less → ⊥
-    still r y (inl e) l =
-        no-less-self revOrder (x .0)
-        (revOrder .trans (x .0) (r .entry .0) (x .0) (below-all revOrder (x .0) (z ∷ t) (s .0) (s .1) (r .entry) (r .within))
-        (subst (λ (w : Entry). orderRev (r .entry .0) (w .0) ≡ Less) e l))
-    still r y (inr m) l = r .top y m l
-
-above : (a b : Revision) → a .number .0 < b .number .0 → orderRev a b ≡ Less
-unfolding orderRev
-above a b h = rw (less-orderN (a .number .0) (b .number .0) h) refl
-
--- a winner of t, which is one of its leaves
-pub record Won (t : Tree) : Type 0 where
-  pub leaf : LeafOf
-  pub is : winner t ≡ some leaf
-  pub within : In leaf (leaves t)
-
-pub has-winner : (t : Tree) → IsTree t → Won t
-unfolding winner highest
-has-winner t h = go (leaves t) refl (content-leaf t (h .ascending) (leafOf (x .entry .0) (c .0)) (c .1))
-  where
-    x : Last t
-    x = last-of t (h .ascending) (h .some-revision)
-
-    leaf : Leaf t (x .entry .0)
-    leaf = (
-      (x .entry .1, in-find revOrder t (h .ascending) (x .entry) (x .within)),
-      λ k. x .top (k .0, k .1 .0) (find-in revOrder t (k .0) (k .1 .0) (k .1 .1))
-          (above (x .entry .0) (k .0) (omega (arith, h .lower (k .0) (x .entry .0) (k .1)))),
-    )
-
-    c : (c : Content) × HasContent t (x .entry .0) c
-    c = h .leaves (x .entry .0) .1 leaf
-
-    go : (ls : List LeafOf) → leaves t ≡ ls → In (leafOf (x .entry .0) (c .0)) (leaves t) → Won t
-    go [] e m = absurd (subst (λ (l : List LeafOf). In (leafOf (x .entry .0) (c .0)) l) e m)
-    go (a ∷ ls) e m =
-        let w : highest (leaves t) ≡ some (higher a (highest ls)) = ap highest e in
-        record { leaf = higher a (highest ls); is = w; within = highest-in (leaves t) (higher a (highest ls)) w }
+use Rattle.union.proofs.Winners.{leafOf, leaves-out, highest-in}
+use Rattle.reads.proofs.TreeLaws.{has-winner}
 
 -- ---- the winner is among the leaves once
 
@@ -145,7 +88,7 @@ not-at-one w (a ∷ ls) p (inr m) = go (orderRev (w .rev) (a .rev)) refl (not-at
 
 -- "The document's conflicts are its leaves other than the winner": one fewer than the leaves
 pub conflict-count : (t : Tree) → IsTree t → length (conflicts t) + 1 ≡ length (leaves t)
-unfolding conflicts
+unfolding conflicts winner
 conflict-count t h =
     let w = has-winner t h in
-    rw (w .is) (omega (arith, not-at-one (w .leaf) (leaves t) (leaves-apart t (h .ascending)) (w .within)))
+    rw (w .1) (omega (arith, not-at-one (w .0) (leaves t) (leaves-apart t (h .ascending)) (highest-in (leaves t) (w .0) (w .1))))

@@ -1,39 +1,54 @@
 -- Parts of a report's lines, how long each is at most, and what a caller shows to have one written.
 use mathlib.Core.List.{List, [], _++_, map}
-use Prim.Native.Nat.{ℕ, _+_, _-_, _*_, _≤_, _<_}
+use Prim.Native.Nat.{ℕ, suc, _+_, _-_, _*_, _≤_, _<_}
+use Prim.Native.String.{String}
 use lib.ListN.{length}
 use Rattle.rules.specs.declared.Revision.{Revision}
 use Rattle.rules.specs.Bytes.{join}
 use Rattle.rules.specs.Choice.{maybe}
 use Rattle.rules.specs.Map.{Map}
 use Rattle.rules.specs.Read.{leaves, winner}
-use Rattle.rules.specs.Replica.{Id, revision, Tree, Document, IsTree}
-use Rattle.rules.specs.Report.{decimal, text, lineOf, revText, lineText}
-use Rattle.rules.specs.Room.{documentsMost, revisionsMost}
-use Rattle.text.specs.Text.{Put}
-use Rattle.tree.specs.Table.{treeAt}
+use Rattle.rules.specs.Replica.{Id, revision, Tree, Document}
+use Rattle.rules.specs.Report.{decimal, text, documentsWord, revisionsWord, seqWord, ownWord, winnerWord, dash, leavesWord, conflictsWord, refusedWord, atWord, newline, lineOf, revText, lineText}
+use Rattle.rules.specs.Room.{documentsMost, revisionsMost, idMost, hashSize}
+use Rattle.text.specs.Text.{decimalMost, Put}
+use Rattle.tree.specs.declared.table.Body.{Body}
 use Rattle.store.specs.Storage.{Laid, IsStored}
 use Rattle.store.specs.Documents.{documentsOf}
+use Rattle.reads.specs.Reads.{CanRead}
 
--- the most bytes of each line and of its parts: a number has ten digits at most, an id 64 in hex, a hash 32
+-- the bytes of a word
+abbrev pub size : String → ℕ
+size String.[] = 0
+size (String._∷_ c s) = suc (size s)
+
+-- the most bytes of a word with a number after it
+abbrev pub fieldMost : String → ℕ
+fieldMost s = size s + decimalMost
+
+-- "hex": two digits a byte
+abbrev pub hexSize : ℕ → ℕ
+hexSize n = 2 * n
+
+-- the most bytes of each line and of its parts
 abbrev pub headMost : ℕ
-headMost = 57
+headMost = fieldMost seqWord + fieldMost documentsWord + fieldMost revisionsWord + size newline
 
 abbrev pub revMost : ℕ
-revMost = 43
+revMost = decimalMost + size dash + hexSize hashSize
 
 abbrev pub countsMost : ℕ
-countsMost = 40
+countsMost = fieldMost leavesWord + fieldMost conflictsWord + size newline
 
 -- the two counts with the winner before them
 abbrev pub standingMost : ℕ
-standingMost = 8 + revMost + countsMost
+standingMost = size winnerWord + revMost + countsMost
 
 abbrev pub lineMost : ℕ
-lineMost = 64 + 15 + standingMost
+lineMost = hexSize idMost + fieldMost ownWord + standingMost
 
 abbrev pub refusedMost : ℕ
-refusedMost = 33
+refusedMost = fieldMost refusedWord + fieldMost atWord + size newline
 
 -- and of a whole report
 abbrev pub reportMost : ℕ
@@ -50,17 +65,12 @@ pub record CanPutHead (b s : List ℕ) : Type 0 where
 
 -- "leaf count, conflict count": every leaf but the winner is a conflict
 unfoldable pub countsText : ℕ → List ℕ
-countsText n = text " leaves " ++ (decimal n ++ (text " conflicts " ++ (decimal (n - 1) ++ text "\n")))
+countsText n = text leavesWord ++ (decimal n ++ (text conflictsWord ++ (decimal (n - 1) ++ text newline)))
 
 pub record CanPutCounts (s : List ℕ) (at n : ℕ) : Type 0 where
   pub least : 1 ≤ n
   pub most : n ≤ revisionsMost
   pub room : at + countsMost ≤ length s
-
--- a tree in n rows from base on
-pub record HasTree (base n : ℕ) (b : List ℕ) : Type 0 where
-  pub within : base + n * 48 ≤ length b
-  pub tree : IsTree (treeAt base n b)
 
 -- as a line gives it
 unfoldable pub winnerRev : Tree → Revision
@@ -68,11 +78,11 @@ winnerRev t = maybe (revision 0 []) (λ w. w .rev) (winner t)
 
 -- "winner as number and hash, leaf count, conflict count"
 unfoldable pub standingText : Tree → List ℕ
-standingText t = text " winner " ++ (revText (winnerRev t) ++ countsText (length (leaves t)))
+standingText t = text winnerWord ++ (revText (winnerRev t) ++ countsText (length (leaves t)))
 
-pub record CanPutStanding (base n : ℕ) (b s : List ℕ) (at : ℕ) : Type 0 where
-  pub rows : HasTree base n b
-  pub most : n ≤ revisionsMost
+pub record CanPutStanding (body : Body) (b s : List ℕ) (at : ℕ) : Type 0 where
+  pub rows : CanRead body b
+  pub most : body .rows ≤ revisionsMost
   pub room : at + standingMost ≤ length s
 
 pub record CanPutLine (b : List ℕ) (d : ℕ) (s : List ℕ) (at : ℕ) : Type 0 where

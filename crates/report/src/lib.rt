@@ -1,9 +1,11 @@
 // Report: what the check program prints for the bytes of an image.
-// It takes every input of every length. It uses the crates rules, octets, tree, store, text and
-// codec, and the laws of the crates images and union.
+// It takes every input of every length. It uses the crates rules, octets, layout, tree, store, text,
+// faults and codec, and the laws of the crates images, union and reads.
 mod line;
+mod words;
 
 use codec::load;
+use layout::SIZE;
 use line::put_refused;
 use line::put_replica;
 use octets::run::copy_in;
@@ -11,7 +13,8 @@ use rules::Answered;
 use rules::DOCUMENTS;
 use rules::Loaded;
 use rules::Refusal;
-use store::SIZE;
+use words::HEAD_MOST;
+use words::LINE_MOST;
 ghost use mathlib.Core.List.{[]};
 ghost use Prim.Native.Nat.{_≤_};
 ghost use lib.ListN.{length, take};
@@ -21,8 +24,8 @@ ghost use Rattle.rules.specs.Report.{report, readReport};
 ghost use Rattle.report.specs.Lines.{reportMost, PutWithin};
 ghost use Rattle.report.specs.Loaded.{loadedText, CanPutLoaded};
 
-// The longest report: a head line of 57 bytes, and 170 for each document.
-pub const REPORT_MOST: usize = 57 + 170 * DOCUMENTS;
+// The longest report: a head line, and a line for each document.
+pub const REPORT_MOST: usize = HEAD_MOST + LINE_MOST * DOCUMENTS;
 
 // The report of what a load answered and left in b.
 fn put_loaded(loaded: Loaded, b: &[u8], s: &mut [u8]) -> usize

@@ -1,7 +1,18 @@
 // The lines of a report. Each is written into a slice that the caller lends, and the place after it is
 // answered.
+use crate::words::AT;
+use crate::words::CONFLICTS;
+use crate::words::DASH;
+use crate::words::END;
+use crate::words::HAS_DOCUMENTS;
+use crate::words::HAS_REVISIONS;
+use crate::words::LEAVES;
+use crate::words::OWN_SEQ;
+use crate::words::REFUSED;
+use crate::words::SEQ;
+use crate::words::WINNER;
+use faults::fault_number;
 use rules::Fault;
-use rules::RevNumber;
 use rules::Revision;
 use store::read::body_of;
 use store::read::documents_held;
@@ -12,25 +23,25 @@ use store::read::update_sequence;
 use text::put_decimal;
 use text::put_hex;
 use text::put_word;
-use tree::leaf::Winner;
 use tree::leaf::leaf_count;
-use tree::leaf::winner_at;
-use tree::table::rev_at;
-ghost use mathlib.Core.Path.{_≡_};
+use tree::leaf::winner_of;
+use tree::table::Body;
 ghost use mathlib.Core.List.{_++_};
-ghost use Prim.Native.Nat.{ℕ, _+_, _*_, _≤_, _<_};
+ghost use Prim.Native.Nat.{_+_, _*_, _≤_, _<_};
 ghost use lib.ListN.{length};
-ghost use Rattle.rules.specs.Refusal.{faultNumber};
 ghost use Rattle.rules.specs.Report.{decimal, lineOf, revText, lineText, headText, replicaText, refusedText};
-ghost use Rattle.tree.specs.Table.{treeAt};
+ghost use Rattle.text.specs.Text.{decimalMost};
+ghost use Rattle.tree.specs.Table.{treeIn};
 ghost use Rattle.store.specs.Storage.{replicaOf};
 ghost use Rattle.store.specs.Documents.{documentsOf, documentAt};
-ghost use Rattle.report.specs.Lines.{headMost, revMost, countsMost, standingMost, lineMost, reportMost, refusedMost, countsText, winnerRev, standingText, linesText, PutWithin, CanPutHead, CanPutCounts, HasTree, CanPutStanding, CanPutLine, CanPutLines, CanPutReplica};
+ghost use Rattle.report.specs.Lines.{headMost, revMost, countsMost, standingMost, lineMost, reportMost, refusedMost};
+ghost use Rattle.report.specs.Lines.{countsText, standingText, linesText, PutWithin};
+ghost use Rattle.report.specs.Lines.{CanPutHead, CanPutCounts, CanPutStanding, CanPutLine, CanPutLines, CanPutReplica};
 
 // Writes a word and a number.
 fn put_field(s: &mut [u8], at: usize, word: &[u8], v: u32) -> usize
-    requires { ⌜ at + length (now word) + 10 ≤ length (now s) ⌝ }
-    ensures { λ r. ⌜ PutWithin (length (now (word .entry)) + 10) (now (word .entry) ++ decimal v) (now (s .entry)) at r (now (s .exit)) ⌝ }
+    requires { ⌜ at + length (now word) + decimalMost ≤ length (now s) ⌝ }
+    ensures { λ r. ⌜ PutWithin (length (now (word .entry)) + decimalMost) (now (word .entry) ++ decimal v) (now (s .entry)) at r (now (s .exit)) ⌝ }
 {
     let next = put_word(s, at, word);
     put_decimal(s, next, v)
@@ -44,10 +55,10 @@ pub(crate) fn put_head(b: &[u8], s: &mut [u8]) -> usize
     let seq = update_sequence(b);
     let documents = documents_held(b);
     let revisions = revisions_held(b);
-    let d = put_field(s, 0, b"seq ", seq.0);
-    let r = put_field(s, d, b" documents ", documents as u32);
-    let head_end = put_field(s, r, b" revisions ", revisions as u32);
-    put_word(s, head_end, b"\n")
+    let d = put_field(s, 0, &SEQ, seq.0);
+    let r = put_field(s, d, &HAS_DOCUMENTS, documents as u32);
+    let head_end = put_field(s, r, &HAS_REVISIONS, revisions as u32);
+    put_word(s, head_end, &END)
 }
 
 // A revision as number and hash.
@@ -58,7 +69,7 @@ fn put_rev(s: &mut [u8], at: usize, rev: Revision) -> usize
     let number = rev.number;
     let hash = rev.hash;
     let dash = put_decimal(s, at, number.0);
-    let h = put_word(s, dash, b"-");
+    let h = put_word(s, dash, &DASH);
     put_hex(s, h, &hash)
 }
 
@@ -67,23 +78,9 @@ fn put_counts(s: &mut [u8], at: usize, leaves: usize) -> usize
     requires { ⌜ CanPutCounts (now s) at leaves ⌝ }
     ensures { λ r. ⌜ PutWithin countsMost (countsText leaves) (now (s .entry)) at r (now (s .exit)) ⌝ }
 {
-    let c = put_field(s, at, b" leaves ", leaves as u32);
-    let line_end = put_field(s, c, b" conflicts ", (leaves - 1) as u32);
-    put_word(s, line_end, b"\n")
-}
-
-fn fault_number(f: Fault) -> u32
-    ensures { λ r. ⌜ r ≡ faultNumber f ⌝ }
-{
-    match f {
-        Fault::TooShort => 20,
-        Fault::BadEdition => 21,
-        Fault::BadHead => 22,
-        Fault::BadContents => 23,
-        Fault::BadSequence => 24,
-        Fault::BadRow => 25,
-        Fault::BadParent => 26,
-    }
+    let c = put_field(s, at, &LEAVES, leaves as u32);
+    let line_end = put_field(s, c, &CONFLICTS, (leaves - 1) as u32);
+    put_word(s, line_end, &END)
 }
 
 // The line of a refused image.
@@ -92,35 +89,21 @@ pub(crate) fn put_refused(s: &mut [u8], f: Fault, place: u32) -> usize
     ensures { λ r. ⌜ PutWithin refusedMost (refusedText (f, place)) (now (s .entry)) 0 r (now (s .exit)) ⌝ }
 {
     let number = fault_number(f);
-    let at = put_field(s, 0, b"refused ", number);
-    let end = put_field(s, at, b" at ", place);
-    put_word(s, end, b"\n")
-}
-
-// The revision that wins among n rows.
-fn winner_of(b: &[u8], base: usize, n: usize) -> Revision
-    requires { ⌜ HasTree base n (now b) ⌝ }
-    ensures { λ r. ⌜ r ≡ winnerRev (treeAt base n (now (b .entry))) ⌝ }
-{
-    let Winner::At(i) = winner_at(b, base, n) else {
-        // Every tree has a winner, so this is never answered.
-        return Revision {
-            number: RevNumber(0),
-            hash: [0u8; 16],
-        };
-    };
-    rev_at(b, base, i)
+    let at = put_field(s, 0, &REFUSED, number);
+    let end = put_field(s, at, &AT, place);
+    put_word(s, end, &END)
 }
 
 // The part of a document's line that its revisions give.
-fn put_standing(b: &[u8], base: usize, n: usize, s: &mut [u8], at: usize) -> usize
-    requires { ⌜ CanPutStanding base n (now b) (now s) at ⌝ }
-    ensures { λ r. ⌜ PutWithin standingMost (standingText (treeAt base n (now (b .entry)))) (now (s .entry)) at r (now (s .exit)) ⌝ }
+fn put_standing(b: &[u8], body: Body, s: &mut [u8], at: usize) -> usize
+    requires { ⌜ CanPutStanding body (now b) (now s) at ⌝ }
+    ensures { λ r. ⌜ PutWithin standingMost (standingText (treeIn body (now (b .entry)))) (now (s .entry)) at r (now (s .exit)) ⌝ }
 {
-    let w = put_word(s, at, b" winner ");
-    let rev = winner_of(b, base, n);
+    let w = put_word(s, at, &WINNER);
+    let top = winner_of(b, body);
+    let rev = top.rev;
     let c = put_rev(s, w, rev);
-    put_counts(s, c, leaf_count(b, base, n))
+    put_counts(s, c, leaf_count(b, body))
 }
 
 // The line of document d.
@@ -130,9 +113,9 @@ fn put_line(b: &[u8], d: usize, s: &mut [u8], at: usize) -> usize
 {
     let q = put_hex(s, at, id_of(b, d));
     let seq = own_sequence(b, d);
-    let w = put_field(s, q, b" seq ", seq.0);
+    let w = put_field(s, q, &OWN_SEQ, seq.0);
     let body = body_of(b, d);
-    put_standing(b, body.base, body.rows, s, w)
+    put_standing(b, body, s, w)
 }
 
 // A line for each document.

@@ -27,24 +27,27 @@ enum-known-n c = search needs
 
 add-at : tie.Need-add-at Inv-loop μ-loop
 add-at c =
-    let g = (c .before .n) .given in
-    let e : (c .before .before .before .before .before .read-at) .result ≡ Bytes (g .0 .0) = cc in
-    let f = subst (λ (r : Got). Fits r ((c .before .before .before .before .before .before .before .before .loop) .at) (length ((c .before .before .before .before .before .before .before .before .loop) .buf))) e ((c .before .before .before .before .before .read-at) .ensures) in
-    omega (arith, f .1, (c .before .before .before .before .before .before .before .before .loop) .inv .1)
+    let r = c .before .before .before .before .before in
+    let l = r .before .before .before in
+    let e : r .read-at .result ≡ Bytes (c .before .n .given .0 .0) = cc in
+    let f = subst (λ (x : Got). Fits x (l .loop .at) (length (l .loop .buf))) e (r .read-at .ensures) in
+    omega (arith, f .1, l .loop .inv .1)
 
 loop-less : tie.Need-loop-less Inv-loop μ-loop
 loop-less c =
-    let g = (c .before .n) .given in
-    let e : (c .before .before .before .before .before .read-at) .result ≡ Bytes (g .0 .0) = cc in
-    let f = subst (λ (r : Got). Fits r ((c .before .before .before .before .before .before .before .before .loop) .at) (length ((c .before .before .before .before .before .before .before .before .loop) .buf))) e ((c .before .before .before .before .before .read-at) .ensures) in
-    omega (arith, f .0, f .1, (c .before .before .before .before .before .before .before .before .loop) .inv .1)
+    let r = c .before .before .before .before .before in
+    let l = r .before .before .before in
+    let e : r .read-at .result ≡ Bytes (c .before .n .given .0 .0) = cc in
+    let f = subst (λ (x : Got). Fits x (l .loop .at) (length (l .loop .buf))) e (r .read-at .ensures) in
+    omega (arith, f .0, f .1, l .loop .inv .1)
 
 loop-again : tie.Need-loop-again Inv-loop μ-loop
 loop-again c =
-    let g = (c .before .n) .given in
-    let e : (c .before .before .before .before .before .read-at) .result ≡ Bytes (g .0 .0) = cc in
-    let f = subst (λ (r : Got). Fits r ((c .before .before .before .before .before .before .before .before .loop) .at) (length ((c .before .before .before .before .before .before .before .before .loop) .buf))) e ((c .before .before .before .before .before .read-at) .ensures) in
-    (omega (arith, f .1, (c .before .before .before .before .before .before .before .before .loop) .inv .1), search needs)
+    let r = c .before .before .before .before .before in
+    let l = r .before .before .before in
+    let e : r .read-at .result ≡ Bytes (c .before .n .given .0 .0) = cc in
+    let f = subst (λ (x : Got). Fits x (l .loop .at) (length (l .loop .buf))) e (r .read-at .ensures) in
+    (omega (arith, f .1, l .loop .inv .1), search needs)
 
 enum-told : tie.Need-enum-told Inv-loop μ-loop
 enum-told c = search needs

@@ -1,16 +1,25 @@
 -- `holds_replica` meets its contract. Assumes nothing.
-use mathlib.Core.Path.{refl, sym, ap, _∙_}
+use mathlib.Core.Path.{refl, sym, ap, _∙_, _≡_}
 use Prim.Native.Nat.{_+_, _-_, _*_}
 use native.Mathlib.Omega.{arith}
 use lib.ListN.{length-take, length-drop}
-use Rattle.faults.specs.Judged.{judged}
+use borrow.Author.Tests.{not-true, not-false}
+use borrow.Author.Needs.{needs}
+use Rattle.rules.specs.Layout.{rowSize}
+use Rattle.rules.specs.Bytes.{part}
 use Rattle.store.specs.Storage.{rowsPlace}
+use Rattle.faults.specs.Judged.{judged}
+use Rattle.codec.specs.Codec.{laidOut}
 use Rattle.codec.proofs.TakeLaws.{bytes-all}
 use Rattle.codec.proofs.TellLaws.{anew, tells-other, tells-fine, tells-fault}
-use borrow.Author.Needs.{needs}
-use borrow.Author.Tests.{not-true, not-false}
 use Rattle.codec.proofs.holds_replica.Statement.{statement}
 use Rattle.codec.proofs.holds_replica.Tie as tie
+
+-- the scratch holds what the buffer's own parts give, laid out anew
+laid : (c : tie.After-lay-out) → let a = c .before .before .before .before .args in
+    c .lay-out .last .0 ≡ laidOut (a .d) (a .b .now) (part rowsPlace (rowSize * a .r) (a .b .now))
+laid c =
+    anew _ _ _ (rowsPlace + rowSize * c .before .before .before .before .args .r - rowsPlace) _ (c .lay-out .ensures) (omega arith)
 
 mul-e : tie.Need-mul-e
 mul-e c = search needs
@@ -52,7 +61,9 @@ same-bytes-requires : tie.Need-same-bytes-requires
 same-bytes-requires c κs = search needs
 
 returns : tie.Need-returns
-returns c = tells-other _ _ _ (c .before .before .before .before .before .before .before .before .pre) _ (anew _ _ _ (rowsPlace + 48 * c .before .before .before .before .before .before .before .before .args .r - rowsPlace) _ (c .before .before .before .before .lay-out .ensures) (omega arith)) (sym (c .before .same-bytes .ensures) ∙ not-true _ (c .if1 .taken))
+returns c =
+    let l = c .before .before .before .before in
+    tells-other _ _ _ (l .before .before .before .before .pre) _ (laid l) (sym (c .before .same-bytes .ensures) ∙ not-true _ (c .if1 .taken))
 
 slice-aggregate-write-image : tie.Need-slice-aggregate-write-image
 slice-aggregate-write-image c = search needs
@@ -77,12 +88,19 @@ enum-told-2 c = search needs
 
 returns-2 : tie.Need-returns-2
 returns-2 c =
-    let h = bytes-all (c .before .before .before .before .before .before .before .before .before .before .before .before .before .before .before .args .b .now) (λ i. omega (arith, c .before .before .before .before .before .before .before .before .before .before .before .before .before .before .shared-slice-known .given i)) in
-    tells-fine _ _ _ (c .before .before .before .before .before .before .before .before .before .before .before .before .before .before .before .pre) _ (anew _ _ _ (rowsPlace + 48 * c .before .before .before .before .before .before .before .before .before .before .before .before .before .before .before .args .r - rowsPlace) _ (c .before .before .before .before .before .before .before .before .before .before .before .lay-out .ensures) (omega arith)) _ _ refl (c .before .before .before .before .before .write-image .ensures) h (sym (c .before .before .fault .ensures) ∙ ap judged (c .enum-told .given .1)) (sym (c .before .before .before .before .before .before .before .before .same-bytes .ensures) ∙ not-false _ (c .before .before .before .before .before .before .before .if1 .left))
+    let w = c .before .before .before .before .before in
+    let one = w .before .before in
+    let l = one .before .before .before .before in
+    let start = l .before .before .before .before in
+    let h = bytes-all (start .args .b .now) (λ i. omega (arith, l .before .before .before .shared-slice-known .given i)) in
+    tells-fine _ _ _ (start .pre) _ (laid l) _ _ refl (w .write-image .ensures) h (sym (c .before .before .fault .ensures) ∙ ap judged (c .enum-told .given .1))
+    (sym (one .before .same-bytes .ensures) ∙ not-false _ (one .if1 .left))
 
 returns-3 : tie.Need-returns-3
 returns-3 c =
-    tells-fault _ _ _ (c .before .before .before .before .before .before .before .before .before .before .before .before .before .before .before .pre) _ (anew _ _ _ (rowsPlace + 48 * c .before .before .before .before .before .before .before .before .before .before .before .before .before .before .before .args .r - rowsPlace) _ (c .before .before .before .before .before .before .before .before .before .before .before .lay-out .ensures) (omega arith)) _ _ refl (c .before .before .before .before .before .write-image .ensures) _ (sym (c .before .before .fault .ensures) ∙ ap judged (c .enum-told2 .given .1))
+    let w = c .before .before .before .before .before in
+    let l = w .before .before .before .before .before .before in
+    tells-fault _ _ _ (l .before .before .before .before .pre) _ (laid l) _ _ refl (w .write-image .ensures) _ (sym (c .before .before .fault .ensures) ∙ ap judged (c .enum-told2 .given .1))
 
 pub holds-replica-spec : {M : Type 1} → statement M
 holds-replica-spec =

@@ -1,31 +1,29 @@
 -- `is_replica` meets its contract. Assumes nothing.
-use Rattle.rules.specs.Image.{headOf}
-use Rattle.codec.proofs.TellLaws.{not-so, not-sized, not-documents, not-revisions}
 use borrow.Author.Needs.{needs}
+use Rattle.codec.proofs.TellLaws.{not-so, not-sized, not-documents, not-revisions}
 use Rattle.codec.proofs.is_replica.Statement.{statement}
 use Rattle.codec.proofs.is_replica.Tie as tie
 
 returns : tie.Need-returns
 returns c = not-so (not-sized _ 0 (c .if1 .taken))
 
-get2-requires : tie.Need-get2-requires
-get2-requires c κs = search needs
+documents-requires : tie.Need-documents-requires
+documents-requires c κs = search needs
 
 returns-2 : tie.Need-returns-2
-returns-2 c = not-so (not-documents _ _ (c .before .get2 .ensures .is) (c .if2 .taken))
+returns-2 c = not-so (not-documents _ _ (c .before .documents .ensures .is) (c .if2 .taken))
 
-get2-requires-2 : tie.Need-get2-requires-2
-get2-requires-2 c κs = search needs
+revisions-requires : tie.Need-revisions-requires
+revisions-requires c κs = search needs
 
 returns-3 : tie.Need-returns-3
-returns-3 c = not-so (not-revisions _ _ (c .before .get22 .ensures .is) (c .if3 .taken))
+returns-3 c = not-so (not-revisions _ _ (c .before .revisions .ensures .is) (c .if3 .taken))
 
 holds-replica-requires : tie.Need-holds-replica-requires
-unfolding headOf
 holds-replica-requires c κs = record {
   size = c .before .before .before .before .if1 .left;
-  documents = c .before .before .before .get2 .ensures .is;
-  revisions = c .before .get22 .ensures .is;
+  documents = c .before .before .before .documents .ensures .is;
+  revisions = c .before .revisions .ensures .is;
   «documents-most» = c .before .before .if2 .left;
   «revisions-most» = c .if3 .left;
 }
@@ -38,9 +36,9 @@ is-replica-spec =
     tie.close
     (tie.spec
     returns
-    get2-requires
+    documents-requires
     returns-2
-    get2-requires-2
+    revisions-requires
     returns-3
     holds-replica-requires
     returns-4)

@@ -1,7 +1,7 @@
 -- `lay_out` meets its contract. Assumes nothing.
+use borrow.Author.Needs.{needs}
 use Rattle.rules.specs.Bytes.{part}
 use Rattle.codec.proofs.TakeLaws.{laid}
-use borrow.Author.Needs.{needs}
 use Rattle.codec.proofs.lay_out.Statement.{statement}
 use Rattle.codec.proofs.lay_out.Tie as tie
 
@@ -31,7 +31,13 @@ same-length c = search needs
 
 returns : tie.Need-returns
 unfolding part
-returns c = laid _ _ _ _ _ _ _ _ (c .before .before .before .before .before .before .before .before .before .before .before .before .before .before .before .before .before .before .before .before .pre .size) (c .before .before .before .before .before .before .before .before .before .before .before .before .before .before .before .clear .ensures) (c .before .before .before .before .before .before .before .before .before .before .copy-in .ensures) (c .before .before .before .before .before .before .copy-entries .ensures) (c .before .before .copy-in2 .ensures)
+returns c =
+    let rows = c .before .before in
+    let entries = rows .before .before .before .before in
+    let counts = entries .before .before .before .before in
+    let zeros = counts .before .before .before .before .before in
+    laid _ _ _ _ _ _ _ _ (zeros .before .before .before .before .before .pre .size)
+    (zeros .clear .ensures) (counts .copy-in .ensures) (entries .copy-entries .ensures) (rows .copy-in2 .ensures)
 
 pub lay-out-spec : {M : Type 1} → statement M
 lay-out-spec =

@@ -13,18 +13,20 @@ enum-told c = search needs
 
 put-replica-requires : tie.Need-put-replica-requires
 put-replica-requires c κs =
-    let g = (c .before .enum-told) .given in
-    let e : (c .before .before .before .before .before) .args .loaded ≡ Accepted = cc in
-    record { stored = subst (λ (l : Loaded). Answers l ((c .before .before .before .before .before) .args .b .now)) e ((c .before .before .before .before .before) .pre .answers); room = (c .before .before .before .before .before) .pre .room }
+    let g = c .before .enum-told .given in
+    let e = c .before .before .before .before .before in
+    let was : e .args .loaded ≡ Accepted = cc in
+    record { stored = subst (λ (l : Loaded). Answers l (e .args .b .now)) was (e .pre .answers); room = e .pre .room }
 
 enum-known-loaded : tie.Need-enum-known-loaded
 enum-known-loaded c = search needs
 
 cast-put-refused : tie.Need-cast-put-refused
 cast-put-refused c =
-    let g = (c .before .before .loaded) .given in
-    let e : (c .before .before .before .before .before .before) .args .loaded ≡ Refused (g .0 .0) (g .0 .1 .0) = cc in
-    omega (arith, subst (λ (l : Loaded). Answers l ((c .before .before .before .before .before .before) .args .b .now)) e ((c .before .before .before .before .before .before) .pre .answers))
+    let g = c .before .before .loaded .given in
+    let e = c .before .before .before .before .before .before in
+    let was : e .args .loaded ≡ Refused (g .0 .0) (g .0 .1 .0) = cc in
+    omega (arith, subst (λ (l : Loaded). Answers l (e .args .b .now)) was (e .pre .answers))
 
 put-refused-requires : tie.Need-put-refused-requires
 put-refused-requires c κs = search needs
@@ -34,18 +36,22 @@ same-length c = search needs
 
 returns : tie.Need-returns
 returns c =
-    let g = (c .before .before .before .before .enum-told) .given in
-    let e : (c .before .before .before .before .before .before .before .before) .args .loaded ≡ Accepted = cc in
-    rw e ((c .before .before .put-replica) .ensures)
+    let put = c .before .before in
+    let told = put .before .before in
+    let g = told .enum-told .given in
+    let was : told .before .before .before .before .args .loaded ≡ Accepted = cc in
+    rw was (put .put-replica .ensures)
 
 same-length-2 : tie.Need-same-length-2
 same-length-2 c = search needs
 
 returns-2 : tie.Need-returns-2
 returns-2 c =
-    let g = (c .before .before .before .before .before .loaded) .given in
-    let e : (c .before .before .before .before .before .before .before .before .before) .args .loaded ≡ Refused (g .0 .0) (g .0 .1 .0) = cc in
-    rw e (record { put = (c .before .before .put-refused) .ensures .put; most = omega (arith, (c .before .before .put-refused) .ensures .most) })
+    let put = c .before .before in
+    let told = put .before .before .before in
+    let g = told .loaded .given in
+    let was : told .before .before .before .before .args .loaded ≡ Refused (g .0 .0) (g .0 .1 .0) = cc in
+    rw was (record { put = put .put-refused .ensures .put; most = omega (arith, put .put-refused .ensures .most) })
 
 pub put-loaded-spec : {M : Type 1} → statement M
 put-loaded-spec =

@@ -2,7 +2,8 @@
 use mathlib.Core.Path.{_≡_}
 use native.Mathlib.Omega.{arith}
 use lib.ListN.{length}
-use Rattle.report.proofs.JudgedLaws.{judged-answers, judged-text, load-judges}
+use Rattle.report.specs.Lines.{reportMost}
+use Rattle.report.proofs.JudgedLaws.{load-judges}
 use Rattle.report.proofs.PutLaws.{put-as}
 use borrow.Author.Needs.{needs}
 use Rattle.report.proofs.put_report.Statement.{statement}
@@ -19,11 +20,16 @@ slice-aggregate-put-loaded c = search needs
 
 put-loaded-requires : tie.Need-put-loaded-requires
 put-loaded-requires c κs =
-    record { answers = judged-answers ((c .before .before .before .before .before .before) .args .image .now) ((c .before .before .before .load) .last .0) ((c .before .before .before .load) .result) (load-judges _ ((c .before .before .before .before .before .before) .args .image .now) ((c .before .before .before .load) .last .0) ((c .before .before .before .load) .result) ((c .before .before .before .load) .ensures)); room = let l : length ((c .before .before .before .before .before .before) .args .out .now) ≡ 5497 = search needs in omega arith }
+    let l = c .before .before .before in
+    let e = l .before .before .before in
+    let n : length (e .args .out .now) ≡ reportMost = search needs in
+    record { answers = load-judges (l .load .ensures) .answers; room = omega arith }
 
 returns : tie.Need-returns
 returns c =
-    record { put = put-as (judged-text ((c .before .before .before .before .before .before .before) .args .image .now) ((c .before .before .before .before .load) .last .0) ((c .before .before .before .before .load) .result) (load-judges _ ((c .before .before .before .before .before .before .before) .args .image .now) ((c .before .before .before .before .load) .last .0) ((c .before .before .before .before .load) .result) ((c .before .before .before .before .load) .ensures))) ((c .put-loaded) .ensures .put); most = (c .put-loaded) .ensures .most }
+    let put = c .put-loaded .ensures in
+    let l = c .before .before .before .before in
+    record { put = put-as (load-judges (l .load .ensures) .text) (put .put); most = put .most }
 
 pub put-report-spec : {M : Type 1} → statement M
 put-report-spec =

@@ -10,18 +10,23 @@ put-report-requires : tie.Need-put-report-requires
 put-report-requires c κs = search needs
 
 slice-aggregate-hand-over : tie.Need-slice-aggregate-hand-over
-slice-aggregate-hand-over c = sym (still-long ((c .before .put-report) .ensures) (omega arith))
+slice-aggregate-hand-over c = sym (still-long (c .before .put-report .ensures) (omega arith))
 
 hand-over-requires : tie.Need-hand-over-requires
 hand-over-requires c κs =
-    let l = still-long ((c .before .before .put-report) .ensures) (omega arith) in
-    omega (arith, (c .before .before .put-report) .ensures .most)
+    let put = c .before .before .put-report .ensures in
+    let l = still-long put (omega arith) in
+    omega (arith, put .most)
 
 same-length : tie.Need-same-length
 same-length c = search needs
 
 returns : tie.Need-returns
-returns c = handed ((c .before .before .before .before .before .put-report) .ensures) ((c .before .before .before .before .before .before .before .before .before) .args .image .now) ((c .before .before .before .before .before .before .before .before .before) .args .out .now) ((c .before .before .hand-over) .last .1 .1 .0) ((c .before .before .hand-over) .result) refl ((c .before .before .hand-over) .ensures)
+returns c =
+    let handing = c .before .before .hand-over in
+    let put = c .before .before .before .before .before in
+    let a = put .before .before .before .before .args in
+    handed (put .put-report .ensures) (a .image .now) (a .out .now) (handing .last .1 .1 .0) (handing .result) refl (handing .ensures)
 
 pub report-spec : {M : Type 1} → statement M
 report-spec =

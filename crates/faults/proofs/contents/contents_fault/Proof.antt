@@ -7,25 +7,29 @@ use native.Mathlib.Omega.{arith}
 use borrow.Author.Tests.{eq-eqb, ne-eqb}
 use borrow.Author.Needs.{needs}
 use Rattle.rules.specs.Choice.{pick}
-use Rattle.rules.specs.Image.{headOf, badContents}
+use Rattle.rules.specs.Faults.{badContents}
+use Rattle.rules.specs.Layout.{headOf}
+use Rattle.layout.specs.Fields.{twoBytes}
 use Rattle.images.proofs.Entries.{entry-rules}
-use Rattle.faults.specs.Places.{entryAt, idBefore, FitsBefore}
+use Rattle.faults.specs.Places.{rowPlace, entryAt, idBefore, FitsBefore}
 use Rattle.faults.proofs.FirstLaws.{contentsFrom, contents-all, contents-bad, contents-next, contents-end}
 use Rattle.faults.proofs.contents.contents_fault.Statement.{statement}
 use Rattle.faults.proofs.contents.contents_fault.Tie as tie
 
 abbrev Inv-loop : tie.InvT-loop
-Inv-loop s d rows₀ i₀ rows i = (i ≤ d) × (rows ≤ 65536 * i) × FitsBefore i s × (badContents s ≡ contentsFrom s d (headOf s .revisions) i rows)
+Inv-loop s d sum₀ i₀ sum i =
+    (i ≤ d) × (sum ≤ twoBytes * i) × FitsBefore i s × (badContents s ≡ contentsFrom s d (headOf s .revisions) i sum)
 
 abbrev μ-loop : tie.MeasureT-loop
-μ-loop s d rows₀ i₀ rows i = d - i
+μ-loop s d sum₀ i₀ sum i = d - i
 
 documents-requires : tie.Need-documents-requires Inv-loop μ-loop
 documents-requires c κs = search needs
 
 loop-holds : tie.Need-loop-holds Inv-loop μ-loop
-loop-holds c = let s = (c .before .before) .args .s .now in
-    (omega arith, omega arith, tt, contents-all s ∙ ap (λ (n : ℕ). contentsFrom s n (headOf s .revisions) 0 0) (sym ((c .documents) .ensures)))
+loop-holds c =
+    let s = c .before .before .args .s .now in
+    (omega arith, omega arith, tt, contents-all s ∙ ap (λ (n : ℕ). contentsFrom s n (headOf s .revisions) 0 0) (sym (c .documents .ensures .is)))
 
 mul-entry-bad : tie.Need-mul-entry-bad Inv-loop μ-loop
 mul-entry-bad c = search needs
@@ -40,18 +44,28 @@ add-entry-bad-2 : tie.Need-add-entry-bad-2 Inv-loop μ-loop
 add-entry-bad-2 c = search needs
 
 entry-bad-requires : tie.Need-entry-bad-requires Inv-loop μ-loop
-entry-bad-requires c κs = let p = (c .before .before .before .before) .pre in let h = p .size in let e = (c .before .before .documents) .ensures in let l = (c .before .loop) in
-    record { within = omega arith; before = l .inv .2 }
+entry-bad-requires c κs =
+    let h = c .before .before .before .before .pre .size in
+    let e = c .before .before .documents .ensures .is in
+    record { within = omega arith; before = c .before .loop .inv .2 }
 
 returns : tie.Need-returns Inv-loop μ-loop
-returns c = let s = (c .before .before .before .before .before .before) .args .s .now in let l = (c .before .before .before .loop) in
-    sym (l .inv .3 ∙ contents-bad s ((c .before .before .before .before .documents) .result) (headOf s .revisions) (l .i) (l .rows) (omega arith) (sym ((c .before .entry-bad) .ensures) ∙ (c .if1) .taken))
+returns c =
+    let l = c .before .before .before in
+    let s = l .before .before .before .args .s .now in
+    sym (l .loop .inv .3 ∙ contents-bad s (l .before .documents .result) (headOf s .revisions) (l .loop .i) (l .loop .sum) (omega arith) (sym (c .before .entry-bad .ensures) ∙ c .if1 .taken))
 
-row-count-requires : tie.Need-row-count-requires Inv-loop μ-loop
-row-count-requires c κs = search needs
+mul-rows : tie.Need-mul-rows Inv-loop μ-loop
+mul-rows c = search needs
 
 add-rows : tie.Need-add-rows Inv-loop μ-loop
 add-rows c = search needs
+
+rows-requires : tie.Need-rows-requires Inv-loop μ-loop
+rows-requires c κs = search needs
+
+add-sum : tie.Need-add-sum Inv-loop μ-loop
+add-sum c = search needs
 
 add-i : tie.Need-add-i Inv-loop μ-loop
 add-i c = search needs
@@ -60,30 +74,37 @@ loop-less : tie.Need-loop-less Inv-loop μ-loop
 loop-less c = search needs
 
 loop-again : tie.Need-loop-again Inv-loop μ-loop
-loop-again c = let s = (c .before .before .before .before .before .before .before) .args .s .now in let l = (c .before .before .before .before .loop) in
-    let i = l .i in
-    let d = (c .before .before .before .before .before .documents) .result in
-    let place = 16 + 44 * d + 48 * l .rows in
-    let good = sym ((c .before .before .entry-bad) .ensures) ∙ (c .before .if1) .left in
-    let next = contents-next s d (headOf s .revisions) i (l .rows) (omega arith) good in (
+loop-again c =
+    let l = c .before .before .before .before in
+    let d = l .before .documents .result in
+    let s = l .before .before .before .args .s .now in
+    let i = l .loop .i in
+    let good = sym (c .before .before .entry-bad .ensures) ∙ c .before .if1 .left in
+    let next = contents-next s d (headOf s .revisions) i (l .loop .sum) (omega arith) good in (
       omega arith,
-      omega (arith, (c .row-count) .ensures .small),
-      rw (add-one i) (entry-rules place (idBefore i s) (entryAt i s) good .most),
-      l .inv .3 ∙ (next ∙ ap (λ (k : ℕ). contentsFrom s d (headOf s .revisions) (i + 1) (l .rows + k)) (sym ((c .row-count) .ensures .is))),
+      omega (arith, c .rows .ensures .small),
+      rw (add-one i) (entry-rules (rowPlace d (l .loop .sum)) (idBefore i s) (entryAt i s) good .most),
+      l .loop .inv .3 ∙ (next ∙ ap (λ (k : ℕ). contentsFrom s d (headOf s .revisions) (i + 1) (l .loop .sum + k)) (sym (c .rows .ensures .is))),
     )
 
 revisions-requires : tie.Need-revisions-requires Inv-loop μ-loop
 revisions-requires c κs = search needs
 
 returns-2 : tie.Need-returns-2 Inv-loop μ-loop
-returns-2 c = let s = (c .before .before .before .before .before .before) .args .s .now in let l = (c .before .before .before .loop) in
-    sym (l .inv .3 ∙ (contents-end s ((c .before .before .before .before .documents) .result) (headOf s .revisions) (l .i) (l .rows) (omega arith)
-    ∙ ap (λ b. pick b none (some ((c .before .before .before .before .documents) .result))) (eq-eqb (l .rows) (headOf s .revisions) ((c .if2) .taken ∙ (c .before .revisions) .ensures))))
+returns-2 c =
+    let l = c .before .before .before in
+    let d = l .before .documents .result in
+    let s = l .before .before .before .args .s .now in
+    sym (l .loop .inv .3 ∙ (contents-end s d (headOf s .revisions) (l .loop .i) (l .loop .sum) (omega arith)
+    ∙ ap (λ b. pick b none (some d)) (eq-eqb (l .loop .sum) (headOf s .revisions) (c .if2 .taken ∙ c .before .revisions .ensures .is))))
 
 returns-3 : tie.Need-returns-3 Inv-loop μ-loop
-returns-3 c = let s = (c .before .before .before .before .before .before) .args .s .now in let l = (c .before .before .before .loop) in
-    sym (l .inv .3 ∙ (contents-end s ((c .before .before .before .before .documents) .result) (headOf s .revisions) (l .i) (l .rows) (omega arith)
-    ∙ ap (λ b. pick b none (some ((c .before .before .before .before .documents) .result))) (ne-eqb (l .rows) (headOf s .revisions) (λ e. (c .if2) .left (e ∙ sym ((c .before .revisions) .ensures))))))
+returns-3 c =
+    let l = c .before .before .before in
+    let d = l .before .documents .result in
+    let s = l .before .before .before .args .s .now in
+    sym (l .loop .inv .3 ∙ (contents-end s d (headOf s .revisions) (l .loop .i) (l .loop .sum) (omega arith)
+    ∙ ap (λ b. pick b none (some d)) (ne-eqb (l .loop .sum) (headOf s .revisions) (λ e. c .if2 .left (e ∙ sym (c .before .revisions .ensures .is))))))
 
 pub contents-fault-spec : {M : Type 1} → statement M
 contents-fault-spec =
@@ -99,8 +120,10 @@ contents-fault-spec =
     add-entry-bad-2
     entry-bad-requires
     returns
-    row-count-requires
+    mul-rows
     add-rows
+    rows-requires
+    add-sum
     add-i
     loop-less
     loop-again

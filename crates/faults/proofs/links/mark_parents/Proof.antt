@@ -1,33 +1,45 @@
 -- `links::mark_parents` meets its contract. Assumes nothing.
-use mathlib.Core.Path.{_≡_, sym, _∙_, subst}
-use Prim.Native.Nat.{ℕ, _-_, _≤_, _<_}
-use native.Mathlib.Numerals.{add-one}
+use mathlib.Core.Path.{sym, _∙_}
+use Prim.Native.Nat.{_-_}
 use native.Mathlib.Omega.{arith}
 use borrow.Author.Needs.{needs}
-use Rattle.faults.proofs.LinkLaws.{serves-none, serves-run, first-none, next-unknown, next-missing, next-among}
-use Rattle.faults.specs.Links.{Serves, Marked}
+use Rattle.faults.proofs.LinkLaws.{Looked, Steps, steps, looked-none, looked-all}
 use Rattle.faults.proofs.links.mark_parents.Statement.{statement}
 use Rattle.faults.proofs.links.mark_parents.Tie as tie
 
 abbrev Inv-loop : tie.InvT-loop
-Inv-loop s base n marks₀ run₀ missing₀ j₀ marks run missing j = (j ≤ n) × Serves base j run s × Marked base n j s marks missing
+Inv-loop s marks₀ base n run₀ missing₀ j₀ marks run missing j = Looked base n s j run marks missing
 
 abbrev μ-loop : tie.MeasureT-loop
-μ-loop s base n marks₀ run₀ missing₀ j₀ marks run missing j = n - j
+μ-loop s marks₀ base n run₀ missing₀ j₀ marks run missing j = n - j
+
+-- the run for row j is known
+step : (c : tie.After-run-at Inv-loop μ-loop) → let l = c .before .before in
+    let a = l .before .before .before .args in
+    Steps (a .body .base) (a .body .rows) (a .s .now) (l .loop .j) (c .run-at .result) (l .loop .marks) (l .loop .missing)
+step c =
+    let l = c .before .before in
+    let start = l .before .before .before in
+    let a = start .args in
+    steps (a .body .base) (a .body .rows) (a .s .now) (start .pre .ordered) (l .loop .j) (l .loop .run) (c .run-at .result) (l .loop .marks) (l .loop .missing)
+    (omega arith) (l .loop .inv) (c .run-at .ensures)
 
 loop-holds : tie.Need-loop-holds Inv-loop μ-loop
-loop-holds c = let a = (c .before .before) .args in (omega arith, serves-none (a .base) (a .s .now), record { marks = (c .before .before) .pre .marks; missing = first-none (a .base) (a .n) (a .s .now) })
+loop-holds c =
+    let start = c .before .before in
+    looked-none (start .args .body .base) (start .args .body .rows) (start .args .s .now) (start .args .marks .now) (start .pre .marks)
 
 run-at-requires : tie.Need-run-at-requires Inv-loop μ-loop
-run-at-requires c κs = let p = (c .before .before .before .before) .pre in let l = (c .before .loop) in let w = p .ordered .within in let h = l .inv .1 .within in (omega arith, omega arith)
+run-at-requires c κs =
+    let p = c .before .before .before .before .pre .ordered .within in
+    let h = c .before .loop .inv .serves .within in
+    (omega arith, omega arith)
 
 add-j : tie.Need-add-j Inv-loop μ-loop
 add-j c = search needs
 
 parent-of-requires : tie.Need-parent-of-requires Inv-loop μ-loop
-parent-of-requires c κs = let a = (c .before .before .before .before .before) .args in let p = (c .before .before .before .before .before) .pre in let l = (c .before .before .loop) in
-    let v = serves-run (a .base) (a .n) (a .s .now) (p .ordered) (l .j) (l .run) ((c .run-at) .result) (omega arith) (l .inv .1) ((c .run-at) .ensures) in
-    record { n = a .n; ordered = p .ordered; here = omega arith; serves = v .0; level = v .1 }
+parent-of-requires c κs = step c .link
 
 enum-told : tie.Need-enum-told Inv-loop μ-loop
 enum-told c = search needs
@@ -36,13 +48,7 @@ loop-less : tie.Need-loop-less Inv-loop μ-loop
 loop-less c = search needs
 
 loop-again : tie.Need-loop-again Inv-loop μ-loop
-loop-again c = let a = (c .before .before .before .before .before .before .before .before) .args in let s = a .s .now in let p = (c .before .before .before .before .before .before .before .before) .pre in let l = (c .before .before .before .before .before .loop) in
-    let here : l .j < a .n = omega arith in
-    let v = serves-run (a .base) (a .n) s (p .ordered) (l .j) (l .run) ((c .before .before .before .run-at) .result) here (l .inv .1) ((c .before .before .before .run-at) .ensures) in (
-      omega arith,
-      rw (add-one (l .j)) (v .0),
-      next-unknown (a .base) (a .n) s (p .ordered) (l .j) ((c .before .before .before .run-at) .result) here (v .0) (v .1) (l .marks) (l .missing) (l .inv .2) (sym ((c .before .before .parent-of) .ensures) ∙ (c .enum-told) .given .1),
-    )
+loop-again c = step (c .before .before .before) .unknown (sym (c .before .before .parent-of .ensures) ∙ c .enum-told .given .1)
 
 enum-told-2 : tie.Need-enum-told-2 Inv-loop μ-loop
 enum-told-2 c = search needs
@@ -54,44 +60,36 @@ loop-less-2 : tie.Need-loop-less-2 Inv-loop μ-loop
 loop-less-2 c = search needs
 
 loop-again-2 : tie.Need-loop-again-2 Inv-loop μ-loop
-loop-again-2 c = let a = (c .before .before .before .before .before .before .before .before .before) .args in let s = a .s .now in let p = (c .before .before .before .before .before .before .before .before .before) .pre in let l = (c .before .before .before .before .before .before .loop) in
-    let here : l .j < a .n = omega arith in
-    let v = serves-run (a .base) (a .n) s (p .ordered) (l .j) (l .run) ((c .before .before .before .before .run-at) .result) here (l .inv .1) ((c .before .before .before .before .run-at) .ensures) in (
-      omega arith,
-      rw (add-one (l .j)) (v .0),
-      rw ((c .lesser) .ensures) (next-missing (a .base) (a .n) s (p .ordered) (l .j) ((c .before .before .before .before .run-at) .result) here (v .0) (v .1) (l .marks) (l .missing) (l .inv .2) (sym ((c .before .before .before .parent-of) .ensures) ∙ (c .before .enum-told2) .given .1)),
-    )
+loop-again-2 c =
+    rw (c .lesser .ensures) (step (c .before .before .before .before) .missing (sym (c .before .before .before .parent-of .ensures) ∙ c .before .enum-told2 .given .1))
 
 enum-known-i : tie.Need-enum-known-i Inv-loop μ-loop
 enum-known-i c = search needs
 
 slice-write-marks : tie.Need-slice-write-marks Inv-loop μ-loop
-slice-write-marks c = let a = (c .before .before .before .before .before .before .before .before .before) .args in let s = a .s .now in let p = (c .before .before .before .before .before .before .before .before .before) .pre in let l = (c .before .before .before .before .before .before .loop) in
-    let here : l .j < a .n = omega arith in
-    let v = serves-run (a .base) (a .n) s (p .ordered) (l .j) (l .run) ((c .before .before .before .before .run-at) .result) here (l .inv .1) ((c .before .before .before .before .run-at) .ensures) in
-    let z = l .inv .2 .marks .size in
-    let k = next-among (a .base) (a .n) s (p .ordered) (l .j) ((c .before .before .before .before .run-at) .result) here (v .0) (v .1) (l .marks) (l .missing) (l .inv .2) _ (sym ((c .before .before .before .parent-of) .ensures) ∙ (c .before .i) .given .1) .0 in
+slice-write-marks c =
+    let l = c .before .before .before .before .before .before in
+    let z = l .loop .inv .marked .marks .size in
+    let k = step (c .before .before .before .before) .among _ (sym (c .before .before .before .parent-of .ensures) ∙ c .before .i .given .1) .0 in
     omega arith
 
 loop-less-3 : tie.Need-loop-less-3 Inv-loop μ-loop
 loop-less-3 c = search needs
 
 loop-again-3 : tie.Need-loop-again-3 Inv-loop μ-loop
-loop-again-3 c = let a = (c .before .before .before .before .before .before .before .before .before) .args in let s = a .s .now in let p = (c .before .before .before .before .before .before .before .before .before) .pre in let l = (c .before .before .before .before .before .before .loop) in
-    let here : l .j < a .n = omega arith in
-    let v = serves-run (a .base) (a .n) s (p .ordered) (l .j) (l .run) ((c .before .before .before .before .run-at) .result) here (l .inv .1) ((c .before .before .before .before .run-at) .ensures) in (
-      omega arith,
-      rw (add-one (l .j)) (v .0),
-      next-among (a .base) (a .n) s (p .ordered) (l .j) ((c .before .before .before .before .run-at) .result) here (v .0) (v .1) (l .marks) (l .missing) (l .inv .2) _ (sym ((c .before .before .before .parent-of) .ensures) ∙ (c .before .i) .given .1) .1,
-    )
+loop-again-3 c = step (c .before .before .before .before) .among _ (sym (c .before .before .before .parent-of .ensures) ∙ c .before .i .given .1) .1
 
 same-length : tie.Need-same-length Inv-loop μ-loop
-same-length c = let a = (c .before .before .before .before) .args in let l = (c .before .loop) in let x = l .inv .2 .marks .size in let y = (c .before .before .before .before) .pre .marks .size in omega arith
+same-length c =
+    let x = c .before .loop .inv .marked .marks .size in
+    let y = c .before .before .before .before .pre .marks .size in
+    omega arith
 
 returns : tie.Need-returns Inv-loop μ-loop
-returns c = let a = (c .before .before .before .before) .args in let s = a .s .now in let l = (c .before .loop) in
-    let e : l .j ≡ a .n = omega arith in
-    subst (λ (k : ℕ). Marked (a .base) (a .n) k s (l .marks) (l .missing)) e (l .inv .2)
+returns c =
+    let l = c .before in
+    let a = l .before .before .before .args in
+    looked-all (a .body .base) (a .body .rows) (a .s .now) (l .loop .j) (l .loop .run) (l .loop .marks) (l .loop .missing) (omega arith) (l .loop .inv)
 
 pub mark-parents-spec : {M : Type 1} → statement M
 mark-parents-spec =

@@ -6,45 +6,58 @@ use native.Mathlib.Omega.{arith}
 use lib.Dec.{eqb}
 use borrow.Author.Needs.{needs}
 use Rattle.rules.specs.Choice.{any}
-use Rattle.faults.specs.Places.{seqAt, seqsBefore}
+use Rattle.faults.specs.Places.{seqsBefore}
 use Rattle.faults.proofs.FirstLaws.{own-zero, own-none, own-found, own-next, own-end}
 use Rattle.faults.proofs.sequence.own_bad.Statement.{statement}
 use Rattle.faults.proofs.sequence.own_bad.Tie as tie
 
 abbrev Inv-loop : tie.InvT-loop
-Inv-loop s i q j₀ j = (j ≤ i) × ((eqb (seqAt i s) 0 || any (eqb (seqAt i s)) (seqsBefore i s)) ≡ any (eqb (seqAt i s)) (seqsBefore j s))
+Inv-loop s i q j₀ j =
+    (j ≤ i) × ((eqb (q .0) 0 || any (eqb (q .0)) (seqsBefore i s)) ≡ any (eqb (q .0)) (seqsBefore j s))
 
 abbrev μ-loop : tie.MeasureT-loop
 μ-loop s i q j₀ j = j
 
-own-requires : tie.Need-own-requires Inv-loop μ-loop
-own-requires c κs = search needs
-
 returns : tie.Need-returns Inv-loop μ-loop
-returns c = let a = (c .before .before .before .before) .args in sym (own-zero (a .i) (a .s .now) (sym ((c .before .before .own) .ensures .is) ∙ (c .if1) .taken))
+returns c = let a = c .before .before .before .args in sym (own-zero (a .q .0) (a .i) (a .s .now) (c .if1 .taken))
 
 loop-holds : tie.Need-loop-holds Inv-loop μ-loop
-loop-holds c = let a = (c .before .before .before .before) .args in (omega arith, own-none (a .i) (a .s .now) (λ e. (c .if1) .left ((c .before .before .own) .ensures .is ∙ e)))
+loop-holds c = let a = c .before .before .before .args in (omega arith, own-none (a .q .0) (a .i) (a .s .now) (c .if1 .left))
 
 sub-j : tie.Need-sub-j Inv-loop μ-loop
 sub-j c = search needs
 
-own-requires-2 : tie.Need-own-requires-2 Inv-loop μ-loop
-own-requires-2 c κs = search needs
+mul-own : tie.Need-mul-own Inv-loop μ-loop
+mul-own c = search needs
+
+add-own : tie.Need-add-own Inv-loop μ-loop
+add-own c = search needs
+
+own-requires : tie.Need-own-requires Inv-loop μ-loop
+own-requires c κs = search needs
 
 returns-2 : tie.Need-returns-2 Inv-loop μ-loop
-returns-2 c = let a = (c .before .before .before .before .before .before .before .before .before .before) .args in let l = (c .before .before .before .before .before .loop) in
-    sym (l .inv .1 ∙ own-found (seqAt (a .i) (a .s .now)) (l .j) (a .s .now) (omega arith) (sym ((c .before .before .before .before .before .before .before .before .own) .ensures .is) ∙ ((c .if2) .taken ∙ (c .before .before .before .own2) .ensures .is)))
+returns-2 c =
+    let o = c .before .before .before in
+    let l = o .before .before in
+    let a = l .before .before .before .before .args in
+    sym (l .loop .inv .1 ∙ own-found (a .q .0) (l .loop .j) (a .s .now) (omega arith) (c .if2 .taken ∙ o .own .ensures .is))
 
 loop-less : tie.Need-loop-less Inv-loop μ-loop
 loop-less c = search needs
 
 loop-again : tie.Need-loop-again Inv-loop μ-loop
-loop-again c = let a = (c .before .before .before .before .before .before .before .before .before .before) .args in let l = (c .before .before .before .before .before .loop) in
-    (omega arith, l .inv .1 ∙ own-next (seqAt (a .i) (a .s .now)) (l .j) (a .s .now) (omega arith) (λ e. (c .if2) .left ((c .before .before .before .before .before .before .before .before .own) .ensures .is ∙ (e ∙ sym ((c .before .before .before .own2) .ensures .is)))))
+loop-again c =
+    let o = c .before .before .before in
+    let l = o .before .before in
+    let a = l .before .before .before .before .args in
+    (omega arith, l .loop .inv .1 ∙ own-next (a .q .0) (l .loop .j) (a .s .now) (omega arith) (λ e. c .if2 .left (e ∙ sym (o .own .ensures .is))))
 
 returns-3 : tie.Need-returns-3 Inv-loop μ-loop
-returns-3 c = let a = (c .before .before .before .before .before .before) .args in let l = (c .before .loop) in sym (l .inv .1 ∙ own-end (seqAt (a .i) (a .s .now)) (l .j) (a .s .now) (omega arith))
+returns-3 c =
+    let l = c .before in
+    let a = l .before .before .before .before .args in
+    sym (l .loop .inv .1 ∙ own-end (a .q .0) (l .loop .j) (a .s .now) (omega arith))
 
 pub own-bad-spec : {M : Type 1} → statement M
 own-bad-spec =
@@ -52,11 +65,12 @@ own-bad-spec =
     (tie.spec
     Inv-loop
     μ-loop
-    own-requires
     returns
     loop-holds
     sub-j
-    own-requires-2
+    mul-own
+    add-own
+    own-requires
     returns-2
     loop-less
     loop-again

@@ -40,9 +40,14 @@ same-length c = search needs
 returns : tie.Need-returns
 unfolding text
 returns c =
+    let w = c .before .before in
+    let conflicts = w .before .before .before .before .before in
+    let leaves = conflicts .before .before .before .before .before in
+    let n = leaves .before .before .before .before .args .leaves in
     record {
-      put = put-as (counts-joined ((c .before .before .before .before .before .before .before .before .before .before .before .before .before .before .before .before) .args .leaves) ((c .before .before .before .before .before .before .before .before .before .before .before .before .before .before .before .before) .args .leaves - 1) (omega arith))
-          (put-then (put-then ((c .before .before .before .before .before .before .before .before .before .before .before .before .put-field) .ensures .put) ((c .before .before .before .before .before .before .before .put-field2) .ensures .put) (omega arith)) ((c .before .before .put-word) .ensures) (omega arith));
+      put =
+          put-as (counts-joined n (n - 1) (omega arith))
+          (put-then (put-then (leaves .put-field .ensures .put) (conflicts .put-field2 .ensures .put) (omega arith)) (w .put-word .ensures) (omega arith));
       most = omega arith;
     }
 

@@ -1,6 +1,4 @@
 -- `report::line::put_head` meets its contract. Assumes nothing.
-use mathlib.Core.Path.{ap}
-use Rattle.rules.specs.declared.Seq.{Seq}
 use Rattle.store.specs.Storage.{replicaOf}
 use native.Mathlib.Omega.{arith}
 use Rattle.rules.specs.Report.{text}
@@ -54,9 +52,18 @@ same-length c = search needs
 returns : tie.Need-returns
 unfolding text
 returns c =
+    let w = c .before .before in
+    let revisions = w .before .before .before .before .before in
+    let documents = revisions .before .before .before .before .before in
+    let seq = documents .before .before .before .before .before in
+    let held = seq .before .before .before in
+    let e = held .before .before .before .before .before in
     record {
-      put = put-as (head-joined (replicaOf ((c .before .before .before .before .before .before .before .before .before .before .before .before .before .before .before .before .before .before .before .before .before .before .before .before .before) .args .b .now)) ((c .before .before .before .before .before .before .before .before .before .before .before .before .before .before .before .before .before .before .before .before .before .before .update-sequence) .result .0) ((c .before .before .before .before .before .before .before .before .before .before .before .before .before .before .before .before .before .before .before .before .before .documents-held) .result) ((c .before .before .before .before .before .before .before .before .before .before .before .before .before .before .before .before .before .before .before .before .revisions-held) .result) (ap (λ (q : Seq). q .0) ((c .before .before .before .before .before .before .before .before .before .before .before .before .before .before .before .before .before .before .before .before .before .before .update-sequence) .ensures)) ((c .before .before .before .before .before .before .before .before .before .before .before .before .before .before .before .before .before .before .before .before .before .documents-held) .ensures) ((c .before .before .before .before .before .before .before .before .before .before .before .before .before .before .before .before .before .before .before .before .revisions-held) .ensures))
-          (put-then (put-then (put-then ((c .before .before .before .before .before .before .before .before .before .before .before .before .before .before .before .before .before .put-field) .ensures .put) ((c .before .before .before .before .before .before .before .before .before .before .before .before .put-field2) .ensures .put) (omega arith)) ((c .before .before .before .before .before .before .before .put-field3) .ensures .put) (omega arith)) ((c .before .before .put-word) .ensures) (omega arith));
+      put =
+          put-as (head-joined (replicaOf (e .args .b .now)) (held .before .before .update-sequence .ensures) (held .before .documents-held .ensures) (held .revisions-held .ensures))
+          (put-then
+          (put-then (put-then (seq .put-field .ensures .put) (documents .put-field2 .ensures .put) (omega arith)) (revisions .put-field3 .ensures .put) (omega arith))
+          (w .put-word .ensures) (omega arith));
       most = omega arith;
     }
 

@@ -33,9 +33,15 @@ same-length c = search needs
 returns : tie.Need-returns
 unfolding text
 returns c =
+    let w = c .before .before in
+    let place = w .before .before .before .before .before in
+    let number = place .before .before .before .before .before in
+    let fault = number .before .before .before in
+    let a = fault .before .before .args in
     record {
-      put = put-as (refused-joined ((c .before .before .before .before .before .before .before .before .before .before .before .before .before .before .before .before .before) .args .f, (c .before .before .before .before .before .before .before .before .before .before .before .before .before .before .before .before .before) .args .place) ((c .before .before .before .before .before .before .before .before .before .before .before .before .before .before .before .fault-number) .result) ((c .before .before .before .before .before .before .before .before .before .before .before .before .before .before .before .fault-number) .ensures))
-          (put-then (put-then ((c .before .before .before .before .before .before .before .before .before .before .before .before .put-field) .ensures .put) ((c .before .before .before .before .before .before .before .put-field2) .ensures .put) (omega arith)) ((c .before .before .put-word) .ensures) (omega arith));
+      put =
+          put-as (refused-joined (a .f, a .place) (fault .fault-number .ensures .is))
+          (put-then (put-then (number .put-field .ensures .put) (place .put-field2 .ensures .put) (omega arith)) (w .put-word .ensures) (omega arith));
       most = omega arith;
     }
 

@@ -8,21 +8,34 @@ use borrow.Author.Needs.{needs}
 use Rattle.report.proofs.line.put_replica.Statement.{statement}
 use Rattle.report.proofs.line.put_replica.Tie as tie
 
+-- the entry, from where the head line is written
+abbrev entry : tie.After-put-head → tie.Start
+entry h = h .before .before .before .before
+
 put-head-requires : tie.Need-put-head-requires
-put-head-requires c κs = record { laid = stored-laid _ ((c .before .before .before) .pre .stored); room = omega (arith, (c .before .before .before) .pre .room) }
+put-head-requires c κs =
+    let e = c .before .before .before in
+    record { laid = stored-laid _ (e .pre .stored); room = omega (arith, e .pre .room) }
 
 put-lines-requires : tie.Need-put-lines-requires
 put-lines-requires c κs =
-    record { stored = (c .before .before .before .before .before .before .before) .pre .stored; room = omega (arith, (c .before .before .before .before .before .before .before) .pre .room, (c .before .before .before .before .before .before .before) .pre .stored .replica .documents-most, (c .before .before .before .put-head) .ensures .most) }
+    let head = c .before .before .before in
+    let e = entry head in
+    record { stored = e .pre .stored; room = omega (arith, e .pre .room, e .pre .stored .replica .documents-most, head .put-head .ensures .most) }
 
 same-length : tie.Need-same-length
 same-length c = search needs
 
 returns : tie.Need-returns
 returns c =
-    let m = (c .before .before .before .before .before .before .before .before .before .before) .pre .stored .replica .documents-most in
+    let lines = c .before .before in
+    let head = lines .before .before .before .before in
+    let e = entry head in
+    let m = e .pre .stored .replica .documents-most in
     record {
-      put = put-as (replica-joined (replicaOf ((c .before .before .before .before .before .before .before .before .before .before) .args .b .now))) (put-then ((c .before .before .before .before .before .before .put-head) .ensures .put) ((c .before .before .put-lines) .ensures .put) (omega (arith, (c .before .before .before .before .before .before .before .before .before .before) .pre .room)));
+      put =
+          put-as (replica-joined (replicaOf (e .args .b .now)))
+          (put-then (head .put-head .ensures .put) (lines .put-lines .ensures .put) (omega (arith, e .pre .room)));
       most = omega arith;
     }
 

@@ -2,31 +2,39 @@
 use mathlib.Core.Path.{_≡_}
 use lib.ListN.{length}
 use Rattle.rules.specs.Report.{text}
-use Rattle.text.proofs.TextLaws.{length-hex}
+use Rattle.rules.specs.Room.{hashSize}
+use Rattle.text.proofs.TextLaws.{length-hex, decimal-most}
 use Rattle.report.proofs.StandingLaws.{rev-joined}
 use native.Mathlib.Omega.{arith}
-use Rattle.report.proofs.LengthLaws.{decimal-most}
 use Rattle.report.proofs.PutLaws.{put-then, put-as}
 use borrow.Author.Needs.{needs}
 use Rattle.report.proofs.line.put_rev.Statement.{statement}
 use Rattle.report.proofs.line.put_rev.Tie as tie
 
+-- the entry, from where the number is written
+abbrev entry : tie.After-put-decimal → tie.Start
+entry n = n .before .before .before .before .before
+
+hash-size : (e : tie.Start) → length (e .args .rev .hash) ≡ hashSize
+hash-size e = search needs
+
 put-decimal-requires : tie.Need-put-decimal-requires
-put-decimal-requires c κs = omega (arith, decimal-most ((c .before .before .before .before) .args .rev .number .0))
+put-decimal-requires c κs = let e = c .before .before .before .before in omega (arith, decimal-most (e .args .rev .number .0))
 
 slice-aggregate-put-word : tie.Need-slice-aggregate-put-word
 slice-aggregate-put-word c = search needs
 
 put-word-requires : tie.Need-put-word-requires
-put-word-requires c κs = omega (arith, decimal-most ((c .before .before .before .before .before .before .before .before .before) .args .rev .number .0))
+put-word-requires c κs = let e = entry (c .before .before .before .before) in omega (arith, decimal-most (e .args .rev .number .0))
 
 slice-aggregate-put-hex : tie.Need-slice-aggregate-put-hex
 slice-aggregate-put-hex c = search needs
 
 put-hex-requires : tie.Need-put-hex-requires
 put-hex-requires c κs =
-    let n = decimal-most ((c .before .before .before .before .before .before .before .before .before .before .before .before .before .before) .args .rev .number .0) in
-    let h : length ((c .before .before .before .before .before .before .before .before .before .before .before .before .before .before) .args .rev .hash) ≡ 16 = search needs in
+    let e = entry (c .before .before .before .before .before .before .before .before .before) in
+    let n = decimal-most (e .args .rev .number .0) in
+    let h = hash-size e in
     omega arith
 
 same-length : tie.Need-same-length
@@ -35,11 +43,18 @@ same-length c = search needs
 returns : tie.Need-returns
 unfolding text
 returns c =
-    let n = decimal-most ((c .before .before .before .before .before .before .before .before .before .before .before .before .before .before .before .before .before) .args .rev .number .0) in
-    let h : length ((c .before .before .before .before .before .before .before .before .before .before .before .before .before .before .before .before .before) .args .rev .hash) ≡ 16 = search needs in
-    let l = length-hex ((c .before .before .before .before .before .before .before .before .before .before .before .before .before .before .before .before .before) .args .rev .hash) in
+    let hash = c .before .before in
+    let dash = hash .before .before .before .before .before in
+    let number = dash .before .before .before .before .before in
+    let e = entry number in
+    let v = e .args .rev in
+    let n = decimal-most (v .number .0) in
+    let h = hash-size e in
+    let l = length-hex (v .hash) in
     record {
-      put = put-as (rev-joined ((c .before .before .before .before .before .before .before .before .before .before .before .before .before .before .before .before .before) .args .rev)) (put-then (put-then ((c .before .before .before .before .before .before .before .before .before .before .before .before .put-decimal) .ensures) ((c .before .before .before .before .before .before .before .put-word) .ensures) (omega arith)) ((c .before .before .put-hex) .ensures) (omega arith));
+      put =
+          put-as (rev-joined v)
+          (put-then (put-then (number .put-decimal .ensures) (dash .put-word .ensures) (omega arith)) (hash .put-hex .ensures) (omega arith));
       most = omega arith;
     }
 

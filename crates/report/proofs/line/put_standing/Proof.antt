@@ -2,14 +2,19 @@
 use native.Mathlib.Omega.{arith}
 use Rattle.rules.specs.Replica.{Tree}
 use Rattle.rules.specs.Report.{text}
-use Rattle.tree.specs.Table.{treeAt}
+use Rattle.tree.specs.Table.{treeIn}
 use Rattle.tree.proofs.TableLaws.{length-tree}
+use Rattle.reads.proofs.TreeLaws.{leaves-most}
 use Rattle.report.proofs.PutLaws.{put-then, put-as}
-use Rattle.report.proofs.StandingLaws.{leaves-most, standing-joined}
+use Rattle.report.proofs.StandingLaws.{winner-rev, standing-joined}
 use Rattle.report.proofs.WinnerLaws.{conflict-count}
 use borrow.Author.Needs.{needs}
 use Rattle.report.proofs.line.put_standing.Statement.{statement}
 use Rattle.report.proofs.line.put_standing.Tie as tie
+
+-- the entry, from where the first word is written
+abbrev entry : tie.After-put-word → tie.Start
+entry w = w .before .before .before .before .before
 
 slice-aggregate-put-word : tie.Need-slice-aggregate-put-word
 slice-aggregate-put-word c = search needs
@@ -28,12 +33,19 @@ leaf-count-requires c κs = search needs
 
 put-counts-requires : tie.Need-put-counts-requires
 put-counts-requires c κs =
-    let t : Tree = treeAt ((c .before .before .before .before .before .before .before .before .before .before .before .before .before .before) .args .base) ((c .before .before .before .before .before .before .before .before .before .before .before .before .before .before) .args .n) ((c .before .before .before .before .before .before .before .before .before .before .before .before .before .before) .args .b .now) in
-    let k = conflict-count t ((c .before .before .before .before .before .before .before .before .before .before .before .before .before .before) .pre .rows .tree) in
+    let rev = c .before .before .before .before in
+    let word = rev .before .before .before .before .before .before in
+    let e = entry word in
+    let t : Tree = treeIn (e .args .body) (e .args .b .now) in
+    let k = conflict-count t (e .pre .rows .is) in
     let l = leaves-most t in
-    let m = length-tree ((c .before .before .before .before .before .before .before .before .before .before .before .before .before .before) .args .base) ((c .before .before .before .before .before .before .before .before .before .before .before .before .before .before) .args .n) ((c .before .before .before .before .before .before .before .before .before .before .before .before .before .before) .args .b .now) in
-    let e = (c .leaf-count) .ensures in
-    record { least = omega arith; most = omega (arith, (c .before .before .before .before .before .before .before .before .before .before .before .before .before .before) .pre .most); room = omega (arith, (c .before .before .before .before .before .before .before .before .before .before .before .before .before .before) .pre .room, (c .before .before .before .before .before .before .before .before .before .put-word) .ensures .ends, (c .before .before .before .before .put-rev) .ensures .most) }
+    let m = length-tree (e .args .body .base) (e .args .body .rows) (e .args .b .now) in
+    let n = c .leaf-count .ensures in
+    record {
+      least = omega arith;
+      most = omega (arith, e .pre .most);
+      room = omega (arith, e .pre .room, word .put-word .ensures .ends, rev .put-rev .ensures .most);
+    }
 
 same-length : tie.Need-same-length
 same-length c = search needs
@@ -41,9 +53,15 @@ same-length c = search needs
 returns : tie.Need-returns
 unfolding text
 returns c =
+    let counts = c .before .before in
+    let rev = counts .before .before .before .before .before in
+    let word = rev .before .before .before .before .before .before in
+    let e = entry word in
+    let t : Tree = treeIn (e .args .body) (e .args .b .now) in
     record {
-      put = put-as (standing-joined (treeAt ((c .before .before .before .before .before .before .before .before .before .before .before .before .before .before .before .before .before) .args .base) ((c .before .before .before .before .before .before .before .before .before .before .before .before .before .before .before .before .before) .args .n) ((c .before .before .before .before .before .before .before .before .before .before .before .before .before .before .before .before .before) .args .b .now)) ((c .before .before .before .before .before .before .before .before .before .winner-of) .result) ((c .before .before .before .leaf-count) .result) ((c .before .before .before .before .before .before .before .before .before .winner-of) .ensures) ((c .before .before .before .leaf-count) .ensures))
-          (put-then (put-then ((c .before .before .before .before .before .before .before .before .before .before .before .before .put-word) .ensures) ((c .before .before .before .before .before .before .before .put-rev) .ensures .put) (omega arith)) ((c .before .before .put-counts) .ensures .put) (omega arith));
+      put =
+          put-as (standing-joined t (winner-rev (e .pre .rows .is) (rev .before .before .before .winner-of .ensures)) (counts .before .leaf-count .ensures))
+          (put-then (put-then (word .put-word .ensures) (rev .put-rev .ensures .put) (omega arith)) (counts .put-counts .ensures .put) (omega arith));
       most = omega arith;
     }
 
