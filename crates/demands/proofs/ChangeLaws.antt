@@ -1,5 +1,5 @@
 -- What refile_changes says of a document that it comes to. Assumes nothing.
-use mathlib.Core.Path.{_≡_, refl, sym, ap, _∙_, subst, transport}
+use mathlib.Core.Path.{_≡_, refl, sym, ap, _∙_, subst}
 use mathlib.Core.Bool.{Bool, true, false}
 use mathlib.Core.List.{List, [], _∷_, append-assoc}
 use mathlib.Core.Logic.{inl, inr}
@@ -21,7 +21,7 @@ use Rattle.rules.specs.Choice.{pick, maybe, firstThat}
 use Rattle.rules.specs.Map.{Map}
 use Rattle.rules.specs.Read.{front, shortBuffer, lend, changeOf, readChanges}
 use Rattle.rules.specs.Replica.{Id, Document, Replica, IsReplica, documentOf}
-use Rattle.rules.specs.Room.{last}
+use Rattle.rules.specs.Room.{seqMost}
 use Rattle.rules.specs.Union.{In}
 use Rattle.rules.proofs.OrderLaws.{bytesOrder}
 use Rattle.rules.proofs.ByteLaws.{length-be, value-be, part-front, part-past}
@@ -33,19 +33,16 @@ use Rattle.store.proofs.FitLaws.{replica-fits}
 use Rattle.reads.specs.Next.{Lowest}
 use Rattle.reads.proofs.NextLaws.{seq-path}
 use Rattle.reads.proofs.LowestLaws.{changes-lowest}
-use Rattle.refile.specs.Boundary.{Calls, lentHouse, shortAnswer, numbers, flagNumber, changeBytes, changesAs, changesCall}
-use Rattle.refile.specs.Decode.{valueIn, decode, said}
+use Rattle.refile.specs.Boundary.{shortAnswer, numbers, flagNumber, changeBytes, changesAs, changesCall}
+use Rattle.refile.specs.Decode.{valueIn, decode}
 use Rattle.refile.proofs.AnswerLaws.{room-answer}
-use Rattle.refile.proofs.Decode.{changes-decodes}
-use Rattle.refile.proofs.Keeps.{replica-passes}
-use Rattle.demands.specs.Calls.{IsAccepted, ChangesCall}
+use Rattle.refile.proofs.FairLaws.{told-does}
+use Rattle.refile.proofs.Keeps.{replica-past}
+use Rattle.refile.proofs.NumberLaws.{no-refusal}
+use Rattle.demands.specs.Calls as C
+use Rattle.demands.specs.Calls.{IsAccepted, Called}
 use Rattle.demands.specs.Alike.{changeSize, ComesTo}
-use Rattle.demands.proofs.CallLaws.{no-refusal}
-use Rattle.demands.proofs.HouseLaws.{did}
-
-record Changed (s : List ℕ) (q : ℕ) (out answer : List ℕ) (r : ℕ) (left answered : List ℕ) : Type 0 where
-  calls : Calls (changesCall s q out answer) r (left, answered)
-  decodes : decode r ≡ said (lentHouse s) (changesAs out answer (readChanges (replicaOf s) (record { 0 = q }) out) .0)
+use Rattle.demands.proofs.Results.{changes-tells}
 
 -- what was written and answered is what changes says of a document that is held
 record About (r : Replica) (out answer left answered : List ℕ) : Type 0 where
@@ -55,25 +52,18 @@ record About (r : Replica) (out answer left answered : List ℕ) : Type 0 where
   answers : answered ≡ front (changeBytes change) answer
   about : changeAbout r id ≡ some change
 
-module _ {s : List ℕ} {q : Seq} {out answer : List ℕ} {r : ℕ} {left answered : List ℕ} (k : ChangesCall s q out answer r left answered) (i : IsStored s) where
-  changes-facts : Changed s (q .0) out answer r left answered
-  changes-facts =
-      let c = k .call in
-      transport (λ j. Changed (k .replica j) (k .sequence j) (k .lent j) (k .lent-answer j) (k .answers j) (k .leaves j) (k .writes j))
-      (record { calls = c .promise; decodes = changes-decodes (c .lifetimes) (c .args) (c .result) (c .exit) (c .in-range) (c .asks) (c .promise) })
-
-  pub changes-does : (decode r ≡ changesAs out answer (readChanges (replicaOf s) q out) .0) × ((left, answered) ≡ changesAs out answer (readChanges (replicaOf s) q out) .1)
-  unfolding changesCall
-  changes-does =
-      let f = changes-facts in
-      did (lentHouse s) (out, answer) (changesAs out answer (readChanges (replicaOf s) q out)) (f .calls) (f .decodes) (replica-passes s i)
+module _ {s : List ℕ} {q : Seq} {out answer : List ℕ} {r : ℕ} {left answered : List ℕ} (k : Called C.changes (s, q, out, answer) r (left, answered)) (i : IsStored s) where
+  changes-does : (decode r ≡ changesAs out answer (readChanges (replicaOf s) q out) .0) × ((left, answered) ≡ changesAs out answer (readChanges (replicaOf s) q out) .1)
+  unfolding changesCall firstThat
+  changes-does = told-does (changes-tells .told k) (replica-past s [] i refl)
 
   -- an accepted call that answers 1 says it of one
   changes-says : IsAccepted r → valueIn r ≡ 1 → About (replicaOf s) out answer left answered
   unfolding shortAnswer
   changes-says a v = go (readChanges (replicaOf s) q out) refl (changes-does .0) (changes-does .1)
     where
-      said-of : (c : Change) (l : List ℕ) → readChanges (replicaOf s) q out ≡ (changes.Next c, l) → _≡_ {A = List ℕ × List ℕ} (left, answered) (l, front (changeBytes c) answer) → About (replicaOf s) out answer left answered
+      said-of : (c : Change) (l : List ℕ) → readChanges (replicaOf s) q out ≡ (changes.Next c, l)
+          → _≡_ {A = List ℕ × List ℕ} (left, answered) (l, front (changeBytes c) answer) → About (replicaOf s) out answer left answered
       said-of c l e p =
           let x = union.changes-about (replicaOf s) (i .replica) q out l c e in
           record {
@@ -132,7 +122,8 @@ unfolding front
 front-same i j out l e = sym (take-at i _ (length j) l) ∙ (ap (take (length j)) e ∙ take-at j _ (length j) refl)
 
 -- where it comes to j, it is j that it speaks of
-module _ {j : Id} {s : List ℕ} {q : Seq} {out answer : List ℕ} {r : ℕ} {left answered : List ℕ} (k : ChangesCall s q out answer r left answered) (i : IsStored s) (n : ComesTo j out r left answered) where
+module _ {j : Id} {s : List ℕ} {q : Seq} {out answer : List ℕ} {r : ℕ} {left answered : List ℕ}
+    (k : Called C.changes (s, q, out, answer) r (left, answered)) (i : IsStored s) (n : ComesTo j out r left answered) where
   told : (c : Change) × (take changeSize answered ≡ changeBytes c) × (changeAbout (replicaOf s) j ≡ some c) × (answered ≡ front (changeBytes c) answer)
   told =
       let x = changes-says k i (n .accepted) (n .more) in
@@ -143,7 +134,7 @@ module _ {j : Id} {s : List ℕ} {q : Seq} {out answer : List ℕ} {r : ℕ} {le
 
 pub changes-same : (j : Id) (s t : List ℕ) → IsStored s → IsStored t → changeAbout (replicaOf t) j ≡ changeAbout (replicaOf s) j
     → {p q : Seq} {out out′ answer answer′ : List ℕ} {x y : ℕ} {m n a b : List ℕ}
-    → ChangesCall s p out answer x m a → ChangesCall t q out′ answer′ y n b → ComesTo j out x m a → ComesTo j out′ y n b → take changeSize a ≡ take changeSize b
+    → Called C.changes (s, p, out, answer) x (m, a) → Called C.changes (t, q, out′, answer′) y (n, b) → ComesTo j out x m a → ComesTo j out′ y n b → take changeSize a ≡ take changeSize b
 changes-same j s t hs ht e k l u v =
     let c = told k hs u in
     let d = told l ht v in
@@ -172,11 +163,11 @@ held-about r i c = go (documentOf r i) refl
     go (some d) e p = (d, e, cc)
 
 -- an own sequence has room in four bytes
-own-most : (r : Replica) → IsReplica r → (i : Id) (d : Document) → documentOf r i ≡ some d → d .seq .0 ≤ last
+own-most : (r : Replica) → IsReplica r → (i : Id) (d : Document) → documentOf r i ≡ some d → d .seq .0 ≤ seqMost
 unfolding documentOf
 own-most r k i d e = go (r .documents) (replica-fits r k .documents) (find-in bytesOrder (r .documents) i d e)
   where
-    go : (ds : Map Id Document) → All FitsDocument ds → In (i, d) ds → d .seq .0 ≤ last
+    go : (ds : Map Id Document) → All FitsDocument ds → In (i, d) ds → d .seq .0 ≤ seqMost
     go [] h m = absurd m
     go (x ∷ ds) h (inl q) = let z : d .seq .0 ≡ x .1 .seq .0 = ap (λ (y : Id × Document). y .1 .seq .0) q in let w = h .0 .seq in omega arith
     go (x ∷ ds) h (inr m) = go ds (h .1) m
@@ -191,7 +182,7 @@ next-lowest r k i d q h e = record { held = h; above = omega arith; lowest = λ 
         absurd (n (k .documents i d h .seq-own j x f (seq-path (x .seq) (d .seq) (let g = ltb-false (d .seq .0) (x .seq .0) z in omega arith))))
 
 -- with room for its id and for what is said of it, it is said
-comes-at : {j : Id} {t : List ℕ} {q : Seq} {out answer : List ℕ} {y : ℕ} {n b : List ℕ} → ChangesCall t q out answer y n b → IsStored t
+comes-at : {j : Id} {t : List ℕ} {q : Seq} {out answer : List ℕ} {y : ℕ} {n b : List ℕ} → Called C.changes (t, q, out, answer) y (n, b) → IsStored t
     → (d : Document) → Lowest q (replicaOf t) j d → length j ≤ length out → changeSize ≤ length answer → ComesTo j out y n b
 unfolding firstThat shortBuffer changeBytes
 comes-at {j} {t} {q} {out} {answer} {y} {n} {b} l i d w f g =
@@ -216,7 +207,7 @@ comes-at {j} {t} {q} {out} {answer} {y} {n} {b} l i d w f g =
 
 pub changes-comes : (j : Id) (s t : List ℕ) → IsStored s → IsStored t → changeAbout (replicaOf t) j ≡ changeAbout (replicaOf s) j
     → {p q : Seq} {out out′ answer answer′ : List ℕ} {x y : ℕ} {m n a b : List ℕ}
-    → ChangesCall s p out answer x m a → ComesTo j out x m a → ChangesCall t q out′ answer′ y n b
+    → Called C.changes (s, p, out, answer) x (m, a) → ComesTo j out x m a → Called C.changes (t, q, out′, answer′) y (n, b)
     → suc (q .0) ≡ value (part 4 4 a) → length j ≤ length out′ → changeSize ≤ length answer′ → ComesTo j out′ y n b
 unfolding changeOf
 changes-comes j s t hs ht e {p} {q} {out} {out′} {answer} k u l h f g =

@@ -8,45 +8,47 @@ use lib.ListN.{length, take, drop}
 use Rattle.rules.specs.declared.Answered.{Answered}
 use Rattle.rules.specs.Answer.{Numbered, accepted, answeredNumber}
 use Rattle.rules.specs.Choice.{firstThat}
-use Rattle.rules.specs.Image.{image, faults, replicaIn, save}
+use Rattle.rules.specs.Faults.{faults}
+use Rattle.rules.specs.Image.{image, replicaIn, save}
 use Rattle.images.proofs.Theorems.{image-loads, image-most, loaded-is-replica}
 use Rattle.store.specs.Storage.{storeSize, stored, replicaOf, IsStored}
 use Rattle.codec.proofs.RoundTrip.{save-fits, save-writes}
 use Rattle.refile.specs.Decode.{valueIn, decode}
-use Rattle.demands.specs.Calls.{IsAccepted, LoadCall, SaveCall}
-use Rattle.demands.proofs.CallLaws.{counted, load-fine, load-does, save-does, save-lent}
+use Rattle.demands.specs.Calls as C
+use Rattle.demands.specs.Calls.{IsAccepted, Called, LoadCall}
+use Rattle.demands.proofs.CallLaws.{counted, load-fine, load-does, save-does, save-from}
 
 -- ---- what a save wrote
 
-module _ {s out : List ℕ} {r : ℕ} {left : List ℕ} (k : SaveCall s out r left) where
+module _ {s out : List ℕ} {r : ℕ} {left : List ℕ} (k : Called C.save (s, out) r left) where
   -- an accepted save counts the bytes of the image, which stand at the front
   pub saved-image : IsAccepted r → take (valueIn r) left ≡ image (replicaOf s)
   saved-image a =
-      let d = save-does k (save-lent k a) in
+      let d = save-does k (save-from k a) in
       let n = counted r (save (replicaOf s) out .0) (d .0) a in
-      save-writes (record { does = record { answers = sym n; leaves = d .1 } })
+      save-writes (record { does = record { answers = sym n; left = d .1 } })
 
   -- with room for it, it is accepted
   saved-room : IsStored s → length (image (replicaOf s)) ≤ length out
       → IsAccepted r × (valueIn r ≡ length (image (replicaOf s))) × (left ≡ image (replicaOf s) ++ drop (length (image (replicaOf s))) out)
   saved-room i h =
       let d = save-does k i in
-      let f = save-fits {answer = save (replicaOf s) out .0} (record { does = record { answers = refl; leaves = d .1 } }) h in
+      let f = save-fits {answer = save (replicaOf s) out .0} (record { does = record { answers = refl; left = d .1 } }) h in
       let n : decode r ≡ accepted (length (image (replicaOf s))) = d .0 ∙ ap (λ (a : Answered). answeredNumber a) (f .0) in
       (ap (λ (m : Numbered). m .refusal) n, ap (λ (m : Numbered). m .value) n, f .1)
 
-  -- "The largest image has 26,000 bytes": a buffer of as many is never too short
-  pub saves-always : IsStored s → 26000 ≤ length out → IsAccepted r
+  -- the largest image has as many bytes as a replica: a buffer of as many is never too short
+  pub saves-always : IsStored s → storeSize ≤ length out → IsAccepted r
   saves-always i h = let m = image-most (replicaOf s) (i .replica) in saved-room i (omega arith) .0
 
 -- ---- saved, then loaded
 
 -- what was saved loads into any buffer of a replica's size, and leaves the bytes that were saved from
-pub saved-loads : {s out : List ℕ} {n : ℕ} {saved : List ℕ} → SaveCall s out n saved → IsAccepted n
+pub saved-loads : {s out : List ℕ} {n : ℕ} {saved : List ℕ} → Called C.save (s, out) n saved → IsAccepted n
     → {before : List ℕ} {r : ℕ} {left : List ℕ} → LoadCall before (take (valueIn n) saved) r left → length before ≡ storeSize
     → IsAccepted r × (left ≡ s)
 saved-loads {s} k a l e =
-    let i = save-lent k a in
+    let i = save-from k a in
     let b = saved-image k a in
     let h = image-loads (replicaOf s) (i .replica) in
     let d = load-fine l e (ap (λ (x : List ℕ). firstThat (faults x)) b ∙ h .0) in
@@ -56,7 +58,7 @@ saved-loads {s} k a l e =
 
 -- what loads is, saved, the same bytes again
 pub loaded-saves : {before s : List ℕ} {r : ℕ} {left : List ℕ} → LoadCall before s r left → IsAccepted r
-    → {out : List ℕ} {n : ℕ} {saved : List ℕ} → SaveCall left out n saved → length s ≤ length out
+    → {out : List ℕ} {n : ℕ} {saved : List ℕ} → Called C.save (left, out) n saved → length s ≤ length out
     → IsAccepted n × (valueIn n ≡ length s) × (saved ≡ s ++ drop (length s) out)
 loaded-saves {before} {s} {r} {left} l a {out} {n} {saved} k h =
     let d = load-does l a in
@@ -67,7 +69,7 @@ loaded-saves {before} {s} {r} {left} l a {out} {n} {saved} k h =
 -- ---- one image for each replica
 
 -- of all images, the one that was saved and no other loads as what it was saved from
-pub one-image : {s out : List ℕ} {n : ℕ} {saved : List ℕ} → SaveCall s out n saved → IsAccepted n
+pub one-image : {s out : List ℕ} {n : ℕ} {saved : List ℕ} → Called C.save (s, out) n saved → IsAccepted n
     → {before given : List ℕ} {r : ℕ} {left : List ℕ} → LoadCall before given r left → length before ≡ storeSize
     → (IsAccepted r × (left ≡ s)) ↔ (given ≡ take (valueIn n) saved)
 one-image {s} k a {before} {given} {r} {left} l e = (
@@ -75,7 +77,7 @@ one-image {s} k a {before} {given} {r} {left} l e = (
       let d = load-does l (h .0) in
       sym (loaded-is-replica given (l .given) (d .0) .1) ∙ (ap image (sym (d .1 .means) ∙ ap replicaOf (h .1)) ∙ sym (saved-image k a)),
   λ g.
-      let i = save-lent k a in
+      let i = save-from k a in
       let b = g ∙ saved-image k a in
       let h = image-loads (replicaOf s) (i .replica) in
       let d = load-fine l e (ap (λ (x : List ℕ). firstThat (faults x)) b ∙ h .0) in

@@ -18,7 +18,7 @@ use Rattle.refile.specs.Boundary.{result}
 use Rattle.demands.specs.Calls.{IsAccepted, WriteCall, EditCall}
 use Rattle.demands.specs.Runs.{Pulls}
 use Rattle.demands.specs.Alike.{AnswerAlike}
-use Rattle.demands.proofs.CallLaws.{write-lent, write-does, write-answers, edit-lent, edit-does, pull-target}
+use Rattle.demands.proofs.CallLaws.{write-from, write-does, write-answers, edit-from, edit-does, pull-target}
 use Rattle.demands.proofs.PullLaws.{pulls-does}
 use Rattle.demands.proofs.ReadLaws.{alike}
 
@@ -29,7 +29,7 @@ held-alike j s left r i h m a = alike j s left i h (subst (λ (q : Replica). Sam
 -- after an accepted refile_write, every read of another document answers and writes what it did before
 pub write-frame : {s : List ℕ} {w : Write} {r : ℕ} {left : List ℕ} → WriteCall s w r left → IsAccepted r → (j : Id) → (j ≡ w .id → ⊥) → AnswerAlike j s left
 write-frame {s} {w} {r} {left} k a j n =
-    let i = write-lent k a in
+    let i = write-from k a in
     let d = write-does k i .1 in
     held-alike j s left _ i (d .is) (d .means) (union.write-answers (replicaOf s) w j n)
 
@@ -37,7 +37,7 @@ write-frame {s} {w} {r} {left} k a j n =
 pub edit-frame : {s : List ℕ} {e : Edit} {r : ℕ} {left : List ℕ} → EditCall s e r left → IsAccepted r → (j : Id) → (j ≡ e .id → ⊥) → AnswerAlike j s left
 edit-frame {s} {e} {r} {left} k a j n =
     let d = edit-does k a .1 in
-    held-alike j s left _ (edit-lent k a) (d .is) (d .means) (union.edit-answers (replicaOf s) e j n)
+    held-alike j s left _ (edit-from k a) (d .is) (d .means) (union.edit-answers (replicaOf s) e j n)
 
 -- and after an accepted refile_pull, of a document that it offers nothing of
 pub pull-frame : {s : List ℕ} {q : Seq} {t : List ℕ} {c : Counts} {left : List ℕ} → Pulls s q t c left

@@ -4,7 +4,7 @@ use mathlib.Core.Bool.{Bool, false, _||_}
 use mathlib.Core.List.{List, [], _∷_, _++_}
 use mathlib.Core.Logic.{inl, inr}
 use mathlib.Core.Option.{none}
-use Prim.Native.Nat.{ℕ}
+use Prim.Native.Nat.{ℕ, _*_}
 use native.Mathlib.Omega.{arith}
 use borrow.Author.Tests.{leb-false, ltb-false}
 use lib.Dec.{leb, ltb}
@@ -14,26 +14,28 @@ use Rattle.rules.specs.declared.Content.the-variants.{Live, Deleted}
 use Rattle.rules.specs.declared.Counts.{Counts}
 use Rattle.rules.specs.Bytes.{Bytes, be, value, valueFrom, part, join, pieces}
 use Rattle.rules.specs.Answer.{Numbered, accepted, editedNumber}
-use Rattle.rules.specs.Choice.{any, firstThat}
+use Rattle.rules.specs.Choice.{any, firstThat, howMany}
 use Rattle.rules.specs.Edit.{Edit, isLeaf, deletedWinner, parentOf, parentRule, newNumber, asWrite, alreadyKnown, lastNumber, editRefusals, edit}
 use Rattle.rules.specs.Examples.{lot, hash, on, Step, Seen, then, anew, fresh-saved, saved, table, stepsOf, seenOf}
 use Rattle.rules.specs.Map.{find, alter}
 use Rattle.rules.specs.Order.{orderN, orderBytes, orderRev, sameRev}
-use Rattle.rules.specs.Pull.{offer, offersOf, offersIn, offers, count, take-in, pull}
-use Rattle.rules.specs.Read.{leaves, orderLeaf, highest, winner, ancestry, pathOf, insertBySeq, documentsAfter, front, shortBuffer, changeOf, readChanges}
+use Rattle.rules.specs.Pull.{offers, count, pull}
+use Rattle.rules.specs.Read.{leaves, orderLeaf, highest, winner, insertBySeq, documentsAfter, front, shortBuffer, changeOf, readChanges}
 use Rattle.rules.specs.Replica.{Id, Replica, IsContent, fresh, documentOf, treeOf, revisionsHeld}
-use Rattle.rules.specs.Room.{last, labels}
+use Rattle.rules.specs.Room.{numberMost, revisionsMost, labels}
 use Rattle.rules.specs.Union.{In, given, IsUnion, SameButSeq, IsWrite, WellFormed, Compatible, Fits, writeAll, AllAccepted, SeqSuffices, allFrom}
 use Rattle.rules.specs.Union as rules
-use Rattle.rules.specs.Write.{Write, write, hashes, along, gives, addAll, added, isNew, isAddition, adds, countNew, badId, badPath, lowNumber, otherParent, otherContent, documentsFull, revisionsFull, sequenceSpent, roomRefusals, writeRefusals}
+use Rattle.rules.specs.Write.{Write, write, hashes, along, gives, addAll, added, isNew, isNewParent, countNew, countParents}
+use Rattle.rules.specs.Write.{adds, badId, badPath, lowNumber, otherParent, otherContent, documentsFull, revisionsFull, sequenceSpent, roomRefusals, writeRefusals}
 use Rattle.rules.proofs.ByteLaws.{bytes-zeros}
 use Rattle.rules.proofs.MapLaws.{none≢some}
+use Rattle.tree.specs.Leaf.{leafSize}
 use Rattle.union.specs.Said.{IsEdit, there}
 use Rattle.union.proofs.Instances as union
 use Rattle.union.proofs.Instances.{one, apart, note, office, field, around, same-writes, repeats, repeats-ready, pair-ready, offices-ready, counts, come}
 use Rattle.union.proofs.Ready.{Ready, clash, clashes, idsOf, incompatible, malformed, notBytes, ready, revisionsOf, tagged, unready}
 use Rattle.union.proofs.TwoWay.{sound-within}
-use Rattle.union.proofs.Refusals.{or-false}
+use Rattle.rules.proofs.ChoiceLaws.{neither}
 use Rattle.union.proofs.Lists.{in-left, in-right}
 use Rattle.writes.proofs.FormLaws.{good-form}
 use Rattle.images.proofs.Theorems.{image-most, replica-iff}
@@ -41,10 +43,11 @@ use Rattle.store.specs.Storage.{storeSize, stored, replicaOf, IsStored}
 use Rattle.store.proofs.StoredLaws.{size-laid}
 use Rattle.store.proofs.FitLaws.{stored-laid}
 use Rattle.pulls.specs.BothWays as ways
-use Rattle.pulls.proofs.Instances.{kept, lost}
-use Rattle.refile.specs.Boundary.{result, numbers, changeBytes, changesAs}
+use Rattle.pulls.proofs.Instances.{kept, lost, passed}
+use Rattle.refile.specs.Boundary.{refusedFrom, result, numbers, changeBytes, changesAs}
 use Rattle.refile.specs.Decode.{refusalIn, valueIn}
-use Rattle.demands.specs.Calls.{IsAccepted, LoadCall, SaveCall, EditCall, WinnerCall, LeavesCall, ChangesCall}
+use Rattle.demands.specs.Calls as C
+use Rattle.demands.specs.Calls.{IsAccepted, Called, LoadCall, EditCall}
 use Rattle.demands.specs.Runs.{WriteCalls, NoneRefused, Made, Pulls, BothWays}
 use Rattle.demands.specs.Alike.{changeSize, ComesTo, AnswerAlike}
 use Rattle.demands.specs.Played.{Reads, Fresh, Writes, Plays}
@@ -132,9 +135,9 @@ run-exists us vs h k =
       ways = record { forth = forth .2; back = back .2 };
     }
 
--- ---- demand 2: any replica, saved into 26,000 bytes and loaded where it was saved from
+-- ---- demand 2: any replica, saved into a buffer of a replica's size and loaded where it was saved from
 
-loaded-back : (s : List ℕ) → IsStored s → {out : List ℕ} {n : ℕ} {saved : List ℕ} → SaveCall s out n saved → IsAccepted n
+loaded-back : (s : List ℕ) → IsStored s → {out : List ℕ} {n : ℕ} {saved : List ℕ} → Called C.save (s, out) n saved → IsAccepted n
     → (r : ℕ) × (left : List ℕ) × LoadCall s (take (valueIn n) saved) r left × IsAccepted r × (left ≡ s)
 loaded-back s i {out} {n} {saved} k a =
     let b = saved-image k a in
@@ -147,10 +150,10 @@ loaded-back s i {out} {n} {saved} k a =
     (_, _, x, d .0, d .1)
 
 pub round-trip : (s : List ℕ) → IsStored s → (n : ℕ) × (saved : List ℕ) × (r : ℕ) × (left : List ℕ)
-    × SaveCall s (replicate 26000 0) n saved × LoadCall s (take (valueIn n) saved) r left × IsAccepted r × (left ≡ s)
+    × Called C.save (s, replicate storeSize 0) n saved × LoadCall s (take (valueIn n) saved) r left × IsAccepted r × (left ≡ s)
 round-trip s i =
-    let l : length (replicate {A = ℕ} 26000 0) ≡ 26000 = length-replicate {A = ℕ} 26000 0 in
-    let k = save-exists s (replicate 26000 0) i (omega arith) in
+    let l : length (replicate {A = ℕ} storeSize 0) ≡ storeSize = length-replicate {A = ℕ} storeSize 0 in
+    let k = save-exists s (replicate storeSize 0) i (omega arith) in
     let x = loaded-back s i k (saves-always k i (omega arith)) in
     (_, _, x .0, x .1, k, x .2, x .3, x .4)
 
@@ -203,22 +206,31 @@ pub pair-clerk : (x : Run one apart) → Agrees one apart x
 pair-clerk x =
     none-refused (x .ways) (ap (λ (n : Counts). n .refused) (pair-agrees x .1)) (ap (λ (n : Counts). n .refused) (pair-agrees x .2))
 
+-- a note, alone and beside "lot"
+abbrev pub noted : List Write
+noted = on note 1 (0x10 ∷ []) (Live 1) ∷ []
+
+abbrev pub beside : List Write
+beside = one ++ noted
+
+-- what is computed of these writes: nothing keeps them from being accepted
+record Clear : Type 0 where
+  kept-fine : unready kept ≡ false
+  lost-fine : unready lost ≡ false
+  noted-fine : unready noted ≡ false
+  beside-fine : unready beside ≡ false
+
+clear : Clear
+unfolding unready malformed notBytes incompatible clashes clash idsOf tagged revisionsOf badId badPath lowNumber
+    firstThat any hashes pieces join gives along orderBytes orderRev orderN sameRev
+clear = record { kept-fine = refl; lost-fine = refl; noted-fine = refl; beside-fine = refl }
+
 -- also of writes that are not compatible: nothing is refused, so both hold the union
 kept-ready : Ready kept
-unfolding unready malformed notBytes incompatible clashes clash idsOf tagged revisionsOf badId badPath lowNumber firstThat any hashes pieces join gives along orderBytes orderRev orderN sameRev
-kept-ready = ready kept refl
+kept-ready = ready kept (clear .kept-fine)
 
 lost-ready : Ready lost
-unfolding unready malformed notBytes incompatible clashes clash idsOf tagged revisionsOf badId badPath lowNumber firstThat any hashes pieces join gives along orderBytes orderRev orderN sameRev
-lost-ready = ready lost refl
-
-record Passed : Type 0 where
-  forth : pull allFrom (writeAll kept fresh) (writeAll lost fresh) .0 ≡ counts 0 1 0
-  back : pull allFrom (there (writeAll kept fresh) (writeAll lost fresh)) (writeAll kept fresh) .0 ≡ counts 1 0 0
-
-passed : Passed
-unfolding pull take-in count offers offersIn offersOf offer documentsAfter insertBySeq pathOf ancestry leaves writeAll write writeRefusals roomRefusals badId badPath lowNumber otherParent otherContent documentsFull revisionsFull sequenceSpent countNew isNew isAddition adds added addAll gives along hashes pieces join firstThat any find alter orderBytes orderRev orderN sameRev documentOf treeOf revisionsHeld
-passed = record { forth = refl; back = refl }
+lost-ready = ready lost (clear .lost-fine)
 
 pub lost-run : Run kept lost
 lost-run = run-exists kept lost (kept-ready .well-formed) (lost-ready .well-formed)
@@ -253,12 +265,8 @@ pair-two-way x =
 
 -- ---- the frame: a note written beside "lot"
 
-abbrev pub noted : List Write
-noted = on note 1 (0x10 ∷ []) (Live 1) ∷ []
-
 noted-ready : Ready noted
-unfolding unready malformed notBytes incompatible clashes clash idsOf tagged revisionsOf badId badPath lowNumber firstThat any hashes pieces join gives along orderBytes orderRev orderN sameRev
-noted-ready = ready noted refl
+noted-ready = ready noted (clear .noted-fine)
 
 pub noted-made : (left : List ℕ) × Made noted left × IsStored left
 noted-made = made-exists noted (noted-ready .well-formed)
@@ -267,19 +275,15 @@ other : lot ≡ note → ⊥
 other e = let z : _≡_ {A = ℕ} 0x6c 0x61 = ap (λ (l : List ℕ). getD l 0 0) e in omega arith
 
 -- refile_winner is asked for "lot" before and after, and answers alike
-pub noted-frame : (x y : ℕ) (m n : List ℕ) (out : List ℕ) → WinnerCall (noted-made .1 .made) lot out x m → WinnerCall (noted-made .1 .writes .1) lot out y n → (x ≡ y) × (m ≡ n)
+pub noted-frame : (x y : ℕ) (m n : List ℕ) (out : List ℕ) → Called C.winner (noted-made .1 .made, lot, out) x m → Called C.winner (noted-made .1 .writes .1, lot, out) y n → (x ≡ y) × (m ≡ n)
 noted-frame x y m n out k l =
     let u = union-of-writes (noted-made .1) (noted-ready .well-formed) (noted-ready .compatible) (noted-ready .fits) in
     write-frame (noted-made .1 .writes .2) (u .0 .0) lot other .winner out x y m n k l
 
 -- and refile_changes comes to "lot" before and after
 
-abbrev pub beside : List Write
-beside = one ++ noted
-
 beside-ready : Ready beside
-unfolding unready malformed notBytes incompatible clashes clash idsOf tagged revisionsOf badId badPath lowNumber firstThat any hashes pieces join gives along orderBytes orderRev orderN sameRev
-beside-ready = ready beside refl
+beside-ready = ready beside (clear .beside-fine)
 
 pub beside-made : (left : List ℕ) × Made beside left × IsStored left
 beside-made = made-exists beside (beside-ready .well-formed)
@@ -297,25 +301,17 @@ before-stored = write-does (beside-made .1 .writes .2) (fresh-does (beside-made 
 after-stored : IsStored after
 after-stored = write-does (beside-made .1 .writes .3 .2) before-stored .1 .is
 
+-- what the writes from the buffer that was made fresh come to
+from-made : (ws : List Write) (left : List ℕ) → WriteCalls ws (beside-made .1 .made) left → replicaOf left ≡ writeAll ws fresh
+from-made ws left k =
+    let m = beside-made .1 in
+    left-is (record { buffer = m .buffer; made = m .made; result = m .result; fresh = m .fresh; accepted = m .accepted; writes = k })
+
 before-is : replicaOf before ≡ writeAll one fresh
-before-is = left-is (record {
-  buffer = beside-made .1 .buffer;
-  made = beside-made .1 .made;
-  result = beside-made .1 .result;
-  fresh = beside-made .1 .fresh;
-  accepted = beside-made .1 .accepted;
-  writes = (beside-made .1 .writes .0, before, beside-made .1 .writes .2, refl);
-})
+before-is = let w = beside-made .1 .writes in from-made one before (w .0, before, w .2, refl)
 
 after-is : replicaOf after ≡ writeAll beside fresh
-after-is = left-is (record {
-  buffer = beside-made .1 .buffer;
-  made = beside-made .1 .made;
-  result = beside-made .1 .result;
-  fresh = beside-made .1 .fresh;
-  accepted = beside-made .1 .accepted;
-  writes = (beside-made .1 .writes .0, before, beside-made .1 .writes .2, (beside-made .1 .writes .3 .0, after, beside-made .1 .writes .3 .2, refl));
-})
+after-is = let w = beside-made .1 .writes in from-made beside after (w .0, before, w .2, (w .3 .0, after, w .3 .2, refl))
 
 pub beside-frame : AnswerAlike lot before after
 beside-frame =
@@ -338,11 +334,15 @@ record Told : Type 0 where
   second : Says (writeAll beside fresh)
 
 told : Told
-unfolding readChanges changeOf documentsAfter insertBySeq shortBuffer front changeBytes numbers be leaves orderLeaf highest winner writeAll write writeRefusals roomRefusals badId badPath lowNumber otherParent otherContent documentsFull revisionsFull sequenceSpent countNew isNew isAddition adds added addAll gives along hashes pieces join firstThat any find alter orderBytes orderRev orderN sameRev documentOf treeOf revisionsHeld
+unfolding readChanges changeOf documentsAfter insertBySeq shortBuffer front changeBytes numbers be leaves orderLeaf
+    highest winner writeAll write writeRefusals roomRefusals badId badPath lowNumber otherParent otherContent
+    documentsFull revisionsFull sequenceSpent countNew countParents isNew isNewParent adds howMany added addAll gives
+    along hashes pieces join firstThat any find alter orderBytes orderRev orderN sameRev documentOf treeOf
+    revisionsHeld
 told = record { first = refl; second = refl }
 
 abbrev pub Comes : List ℕ → Type 0
-Comes s = (x : ℕ) × (m : List ℕ) × (a : List ℕ) × ChangesCall s allFrom lentOut lentOut x m a × ComesTo lot lentOut x m a
+Comes s = (x : ℕ) × (m : List ℕ) × (a : List ℕ) × Called C.changes (s, allFrom, lentOut, lentOut) x (m, a) × ComesTo lot lentOut x m a
 
 comes : (s : List ℕ) (r : Replica) → IsStored s → replicaOf s ≡ r → Says r → Comes s
 unfolding value valueFrom part
@@ -379,7 +379,10 @@ new-is : IsEdit new
 new-is = record { id = (omega arith, (omega arith, tt)); hash = (omega arith, bytes-zeros 15); size = refl; content = omega arith }
 
 new-accepted : IsAccepted (result (editedNumber (edit fresh new .0)))
-unfolding edit editRefusals parentRule lastNumber alreadyKnown roomRefusals documentsFull revisionsFull sequenceSpent adds isAddition countNew isNew gives along hashes pieces asWrite newNumber parentOf deletedWinner isLeaf winner leaves highest documentOf treeOf find any firstThat badId revisionsHeld orderBytes orderRev orderN
+unfolding edit editRefusals parentRule lastNumber alreadyKnown roomRefusals documentsFull revisionsFull sequenceSpent
+    adds countNew countParents isNew isNewParent howMany gives along hashes pieces asWrite newNumber parentOf
+    deletedWinner isLeaf winner leaves highest documentOf treeOf find any firstThat badId revisionsHeld orderBytes
+    orderRev orderN
 new-accepted = refl
 
 pub new-left : List ℕ
@@ -389,7 +392,7 @@ new-made : EditCall (stored fresh) new (result (editedNumber (edit (replicaOf (s
 unfolding new-left
 new-made = edit-exists (stored fresh) new fresh-stored new-is (omega arith) (λ v e. absurd (none≢some e)) (λ v e. absurd (none≢some e))
 
-pub new-frame : (x y : ℕ) (m n : List ℕ) (out : List ℕ) → LeavesCall (stored fresh) lot out x m → LeavesCall new-left lot out y n → (x ≡ y) × (m ≡ n)
+pub new-frame : (x y : ℕ) (m n : List ℕ) (out : List ℕ) → Called C.leaves (stored fresh, lot, out) x m → Called C.leaves (new-left, lot, out) y n → (x ≡ y) × (m ≡ n)
 new-frame x y m n out k l =
     let e : replicaOf (stored fresh) ≡ fresh = fresh-does (fresh-made .fresh) (fresh-made .accepted) .means in
     edit-frame new-made (rw e new-accepted) lot other .leaves out x y m n k l
@@ -403,13 +406,13 @@ noLabel Deleted = false
 abbrev pub unfit : Write → Bool
 unfit w =
     any (leb 256) (w .id)
-    || (ltb last (w .number .0)
-    || (any (leb 256) (w .path) || (noLabel (w .content) || (leb 9223372036854775808 (length (w .id)) || leb 9223372036854775808 (length (w .path))))))
+    || (ltb numberMost (w .number .0)
+    || (any (leb 256) (w .path) || (noLabel (w .content) || (leb refusedFrom (length (w .id)) || leb refusedFrom (length (w .path))))))
 
 bytes-if : (s : List ℕ) → any (leb 256) s ≡ false → Bytes s
 unfolding any
 bytes-if [] e = tt
-bytes-if (b ∷ bs) e = let t = or-false (leb 256 b) (any (leb 256) bs) e in (leb-false 256 b (t .0), bytes-if bs (t .1))
+bytes-if (b ∷ bs) e = let t = neither (leb 256 b) (any (leb 256) bs) e in (leb-false 256 b (t .0), bytes-if bs (t .1))
 
 label-if : (c : Content) → noLabel c ≡ false → IsContent c
 label-if (Live n) e = leb-false labels n e
@@ -417,15 +420,15 @@ label-if Deleted e = tt
 
 fit-if : (w : Write) → unfit w ≡ false → Fit w
 fit-if w e =
-    let a = or-false (any (leb 256) (w .id)) _ e in
-    let b = or-false (ltb last (w .number .0)) _ (a .1) in
-    let c = or-false (any (leb 256) (w .path)) _ (b .1) in
-    let d = or-false (noLabel (w .content)) _ (c .1) in
-    let f = or-false (leb 9223372036854775808 (length (w .id))) _ (d .1) in
+    let a = neither (any (leb 256) (w .id)) _ e in
+    let b = neither (ltb numberMost (w .number .0)) _ (a .1) in
+    let c = neither (any (leb 256) (w .path)) _ (b .1) in
+    let d = neither (noLabel (w .content)) _ (c .1) in
+    let f = neither (leb refusedFrom (length (w .id))) _ (d .1) in
     record {
-      write = record { id = bytes-if (w .id) (a .0); number = ltb-false last (w .number .0) (b .0); path = bytes-if (w .path) (c .0); content = label-if (w .content) (d .0) };
-      id = leb-false 9223372036854775808 (length (w .id)) (f .0);
-      path = leb-false 9223372036854775808 (length (w .path)) (f .1);
+      write = record { id = bytes-if (w .id) (a .0); number = ltb-false numberMost (w .number .0) (b .0); path = bytes-if (w .path) (c .0); content = label-if (w .content) (d .0) };
+      id = leb-false refusedFrom (length (w .id)) (f .0);
+      path = leb-false refusedFrom (length (w .path)) (f .1);
     }
 
 -- a step whose write C can't give
@@ -436,8 +439,8 @@ unfitStep fresh-saved = false
 
 reads-exist : (s : List ℕ) → IsStored s → Reads s
 reads-exist s i =
-    let out : List ℕ = replicate 14848 0 in
-    let l : length out ≡ 14848 = length-replicate {A = ℕ} 14848 0 in
+    let out : List ℕ = replicate (revisionsMost * leafSize) 0 in
+    let l : length out ≡ revisionsMost * leafSize = length-replicate {A = ℕ} (revisionsMost * leafSize) 0 in
     record {
       out = out;
       room = omega arith;
@@ -461,12 +464,12 @@ pub plays-exist : (steps : List Step) → any unfitStep steps ≡ false → (s :
 unfolding any unfitStep
 plays-exist [] e s i = ([], refl)
 plays-exist (then w ∷ steps) e s i =
-    let t = or-false (unfit w) (any unfitStep steps) e in
+    let t = neither (unfit w) (any unfitStep steps) e in
     let k = write-plays s w i (fit-if w (t .0)) in
     let rest = plays-exist steps (t .1) (k .1) (k .3) in
     (k .0 ∷ rest .0, (k .0, rest .0, k .1, k .2, rest .1, refl))
 plays-exist (anew w ∷ steps) e s i =
-    let t = or-false (unfit w) (any unfitStep steps) e in
+    let t = neither (unfit w) (any unfitStep steps) e in
     let k = write-plays (stored fresh) w fresh-stored (fit-if w (t .0)) in
     let rest = plays-exist steps (t .1) (k .1) (k .3) in
     (k .0 ∷ rest .0, (k .0, rest .0, stored fresh, k .1, fresh-again s i, k .2, rest .1, refl))

@@ -1,5 +1,5 @@
 -- The theorems about the C calls, and the laws they rest on.
-pub mod HouseLaws
+pub mod Results
 pub mod CallLaws
 pub mod Demand2
 pub mod PullLaws

@@ -1,7 +1,7 @@
 -- The counts in a pull's answer, and an accepted pull as what pull promises. Assumes nothing.
 use mathlib.Core.Path.{_≡_, sym, ap, _∙_}
 use mathlib.Core.List.{List, [], _++_, append-assoc}
-use Prim.Native.Nat.{ℕ, _+_, _<_, _≤_}
+use Prim.Native.Nat.{ℕ, _<_, _≤_}
 use native.Mathlib.Omega.{arith}
 use lib.ListN.{length, drop}
 use Rattle.rules.specs.declared.Counts.{Counts}
@@ -10,6 +10,7 @@ use Rattle.rules.specs.Bytes.{be, value, part}
 use Rattle.rules.specs.Pull.{pull}
 use Rattle.rules.specs.Read.{front}
 use Rattle.rules.specs.Replica.{Replica, IsReplica}
+use Rattle.rules.specs.Room.{revisionsMost}
 use Rattle.rules.proofs.ByteLaws.{length-be, value-be, part-front, part-past}
 use Rattle.union.specs.Said.{total}
 use Rattle.union.proofs.Demand3 as union
@@ -50,7 +51,7 @@ counts-read c answer h k l = λ i. record { changed = x i; unchanged = y i; refu
         ∙ value-be 4 (c .refused) (omega arith)
 
 -- there are no more offers than revisions, so four bytes hold each count
-counts-small : (q : Seq) (s t : Replica) → IsReplica s → total (pull q s t .0) ≤ 512
+counts-small : (q : Seq) (s t : Replica) → IsReplica s → total (pull q s t .0) ≤ revisionsMost
 counts-small q s t k =
     let a = union.counts-offers q s t in
     let b = offers-most q s in

@@ -2,176 +2,217 @@
 -- to be changed, with the function's own promise of them.
 use mathlib.Core.Path.{_≡_}
 use mathlib.Core.List.{List, []}
-use Prim.Native.Nat.{ℕ}
-use contract.Lifetimes.{Lfts}
-use denote.Triple.Clauses.{AtExit}
-use borrow.Fn.Kinds.{PK, RK, In, Out, Dens, GoodsP, resT, endedOf}
+use mathlib.Core.Option.{Option}
+use Prim.Native.Nat.{ℕ, _<_}
+use mir.Syntax.{w64}
+use borrow.Fn.Kinds.{PK, In, Out, rNum}
 use Rattle.rules.specs.declared.Revision.{Revision}
 use Rattle.rules.specs.declared.Seq.{Seq}
 use Rattle.rules.specs.Bytes.{Bytes}
 use Rattle.rules.specs.Choice.{maybe}
 use Rattle.rules.specs.Edit.{Edit}
+use Rattle.rules.specs.Outcome.{Call}
 use Rattle.rules.specs.Read.{contentKind, contentLabel}
 use Rattle.rules.specs.Replica.{Id}
 use Rattle.rules.specs.Union.{IsWrite}
 use Rattle.rules.specs.Write.{Write}
 use Rattle.union.specs.Said.{IsEdit}
-use Rattle.refile.specs.Decode.{refusalIn}
-use Rattle.refile.proofs.change.refile_fresh.Kinds as fresh
-use Rattle.refile.proofs.change.refile_fresh.Reads as fresh'
-use Rattle.refile.proofs.change.refile_load.Kinds as load
-use Rattle.refile.proofs.change.refile_load.Reads as load'
-use Rattle.refile.proofs.change.refile_save.Kinds as save
-use Rattle.refile.proofs.change.refile_save.Reads as save'
-use Rattle.refile.proofs.change.refile_write.Kinds as write
-use Rattle.refile.proofs.change.refile_write.Reads as write'
-use Rattle.refile.proofs.change.refile_edit.Kinds as edit
-use Rattle.refile.proofs.change.refile_edit.Reads as edit'
-use Rattle.refile.proofs.change.refile_pull.Kinds as pull
-use Rattle.refile.proofs.change.refile_pull.Reads as pull'
-use Rattle.refile.proofs.read.refile_winner.Kinds as winner
-use Rattle.refile.proofs.read.refile_winner.Reads as winner'
-use Rattle.refile.proofs.read.refile_leaves.Kinds as leaves
-use Rattle.refile.proofs.read.refile_leaves.Reads as leaves'
-use Rattle.refile.proofs.read.refile_path.Kinds as path
-use Rattle.refile.proofs.read.refile_path.Reads as path'
-use Rattle.refile.proofs.read.refile_missing.Kinds as missing
-use Rattle.refile.proofs.read.refile_missing.Reads as missing'
-use Rattle.refile.proofs.read.refile_changes.Kinds as changes
-use Rattle.refile.proofs.read.refile_changes.Reads as changes'
-use Rattle.refile.proofs.read.refile_update_sequence.Kinds as sequence
-use Rattle.refile.proofs.read.refile_update_sequence.Reads as sequence'
+use Rattle.store.specs.Storage.{IsStored}
+use Rattle.refile.specs.Boundary.{refusedFrom, CCall, Lent, freshCall, loadCall, saveCall, writeCall, editCall, pullCall}
+use Rattle.refile.specs.Boundary.{winnerCall, leavesCall, pathCall, missingCall, changesCall, sequenceCall, countsCall, reportCall}
+use Rattle.refile.specs.Decode.{refusalIn, Told}
+use Rattle.refile.proofs.change.refile_fresh.Kinds as freshK
+use Rattle.refile.proofs.change.refile_fresh.Reads as freshR
+use Rattle.refile.proofs.change.refile_load.Kinds as loadK
+use Rattle.refile.proofs.change.refile_load.Reads as loadR
+use Rattle.refile.proofs.change.refile_save.Kinds as saveK
+use Rattle.refile.proofs.change.refile_save.Reads as saveR
+use Rattle.refile.proofs.change.refile_write.Kinds as writeK
+use Rattle.refile.proofs.change.refile_write.Reads as writeR
+use Rattle.refile.proofs.change.refile_edit.Kinds as editK
+use Rattle.refile.proofs.change.refile_edit.Reads as editR
+use Rattle.refile.proofs.change.refile_pull.Kinds as pullK
+use Rattle.refile.proofs.change.refile_pull.Reads as pullR
+use Rattle.refile.proofs.read.refile_winner.Kinds as winnerK
+use Rattle.refile.proofs.read.refile_winner.Reads as winnerR
+use Rattle.refile.proofs.read.refile_leaves.Kinds as leavesK
+use Rattle.refile.proofs.read.refile_leaves.Reads as leavesR
+use Rattle.refile.proofs.read.refile_path.Kinds as pathK
+use Rattle.refile.proofs.read.refile_path.Reads as pathR
+use Rattle.refile.proofs.read.refile_missing.Kinds as missingK
+use Rattle.refile.proofs.read.refile_missing.Reads as missingR
+use Rattle.refile.proofs.read.refile_changes.Kinds as changesK
+use Rattle.refile.proofs.read.refile_changes.Reads as changesR
+use Rattle.refile.proofs.read.refile_update_sequence.Kinds as sequenceK
+use Rattle.refile.proofs.read.refile_update_sequence.Reads as sequenceR
+use Rattle.refile.proofs.read.refile_counts.Kinds as countsK
+use Rattle.refile.proofs.read.refile_counts.Reads as countsR
+use Rattle.refile.proofs.read.refile_report.Kinds as reportK
+use Rattle.refile.proofs.read.refile_report.Reads as reportR
 
--- A call of a compiled function of n lifetimes, parameters ps and result r, which asks `asked` and from
--- which its callers learn `learnt`: the arguments are in the ranges of their types and meet what it
--- requires, and it kept its promise.
-pub record Call (n : ℕ) (ps : List (PK n)) (r : RK n) (asked : In n ps) (learnt : Out n ps r) : Type 0 where
-  pub lifetimes : Lfts n
-  pub args : Dens lifetimes ps
-  pub result : resT r lifetimes .Denot
-  pub exit : AtExit (endedOf n ps r) lifetimes
-  pub in-range : GoodsP lifetimes ps args
-  pub asks : asked lifetimes args
-  pub promise : learnt lifetimes args result exit
+-- An exported function, which answers a number of 64 bits, and its calls: `given` has the arguments of one in the
+-- order of include/refile.h, each slice as its bytes, `left` what it leaves of what was lent to it to be changed,
+-- and `means` is its definition in refile's specs/Boundary.antt, of what it is given.
+pub record Exported : Type 3 where
+  pub n : ℕ
+  pub ps : List (PK n)
+  pub asked : In n ps
+  pub learnt : Out n ps (rNum w64)
+  pub Given : Type 0
+  pub Left : Type 0
+  pub given : Call n ps (rNum w64) asked learnt → Given
+  pub left : Call n ps (rNum w64) asked learnt → Left
+  pub means : Given → CCall Left
+
+abbrev exported :
+    {n : ℕ} (ps : List (PK n)) (asked : In n ps) (learnt : Out n ps (rNum w64)) (Given Left : Type 0) →
+    (Call n ps (rNum w64) asked learnt → Given) →
+    (Call n ps (rNum w64) asked learnt → Left) →
+    (Given → CCall Left) →
+    Exported
+exported {n} ps asked learnt Given Left given left means =
+    record { n = n; ps = ps; asked = asked; learnt = learnt; Given = Given; Left = Left; given = given; left = left; means = means }
+
+abbrev pub CallOf : Exported → Type 0
+CallOf f = Call (f .n) (f .ps) (rNum w64) (f .asked) (f .learnt)
+
+-- a call of it that was given `given`, had the result r and left `buffers`
+pub record Called (f : Exported) (given : f .Given) (r : ℕ) (buffers : f .Left) : Type 0 where
+  pub call : CallOf f
+  pub gives : f .given call ≡ given
+  pub answers : call .result ≡ r
+  pub left : f .left call ≡ buffers
+
+-- the result of every call of it tells what the call that it means did
+pub record Tells (f : Exported) : Type 0 where
+  pub told : {given : f .Given} {r : ℕ} {buffers : f .Left} → Called f given r buffers → Told (f .means given) r buffers
+
+-- a buffer that was lent as a replica, after a call with the result r: where it was accepted there is one, and
+-- what could be lent before can be lent again
+pub record Kept (before : List ℕ) (r : ℕ) (after : List ℕ) : Type 0 where
+  pub stands : r < refusedFrom → IsStored after
+  pub lends : Lent before → Lent after
 
 -- a result that is no refusal: refile_refusal of it is 0
 abbrev pub IsAccepted : ℕ → Type 0
 IsAccepted r = refusalIn r ≡ 0
 
--- ---- the calls that make, load and save a replica: each record names the arguments of a call, its result r
--- and what it left. `given` says that slices hold bytes, as those of C do.
+-- ---- those that make, load, save and change a replica
 
-pub record FreshCall (s : List ℕ) (r : ℕ) (left : List ℕ) : Type 0 where
-  pub call : Call _ fresh.ps fresh.r fresh'.Asked fresh'.Learnt
-  pub replica : call .args .0 .now ≡ s
-  pub answers : call .result ≡ r
-  pub leaves : call .exit .0 .now ≡ left
+abbrev pub fresh : Exported
+fresh = exported freshK.ps freshR.Asked freshR.Learnt (List ℕ) (List ℕ)
+    (λ c. c .args .0 .now) (λ c. c .exit .0 .now)
+    (λ g. freshCall g)
 
+abbrev pub load : Exported
+load = exported loadK.ps loadR.Asked loadR.Learnt (List ℕ × List ℕ) (List ℕ)
+    (λ c. (c .args .0 .now, c .args .1 .0 .now)) (λ c. c .exit .0 .now)
+    (λ g. loadCall (g .0) (g .1))
+
+abbrev pub save : Exported
+save = exported saveK.ps saveR.Asked saveR.Learnt (List ℕ × List ℕ) (List ℕ)
+    (λ c. (c .args .0 .now, c .args .1 .0 .now)) (λ c. c .exit .1 .0 .now)
+    (λ g. saveCall (g .0) (g .1))
+
+abbrev pub write : Exported
+write = exported writeK.ps writeR.Asked writeR.Learnt (List ℕ × Id × ℕ × List ℕ × ℕ × ℕ) (List ℕ)
+    (λ c. (c .args .0 .now, c .args .1 .0 .now, c .args .1 .1 .0, c .args .1 .1 .1 .0 .now, c .args .1 .1 .1 .1 .0, c .args .1 .1 .1 .1 .1 .0)) (λ c. c .exit .0 .now)
+    (λ g. writeCall (g .0) (g .1) (g .2) (g .3) (g .4) (g .5))
+
+abbrev pub edit : Exported
+edit = exported editK.ps editR.Asked editR.Learnt (List ℕ × Id × List ℕ × ℕ × ℕ × ℕ × ℕ × List ℕ) (List ℕ)
+    (λ c. let a = c .args .1 .1 .1 in (c .args .0 .now, c .args .1 .0 .now, c .args .1 .1 .0 .now, a .0, a .1 .0, a .1 .1 .0, a .1 .1 .1 .0, a .1 .1 .1 .1 .0 .now))
+    (λ c. c .exit .0 .now)
+    (λ g. editCall (g .0) (g .1) (g .2) (g .3) (g .4) (g .5) (g .6) (g .7))
+
+abbrev pub pull : Exported
+pull = exported pullK.ps pullR.Asked pullR.Learnt (List ℕ × List ℕ × Seq × List ℕ) (List ℕ × List ℕ)
+    (λ c. (c .args .0 .now, c .args .1 .0 .now, record { 0 = c .args .1 .1 .0 }, c .args .1 .1 .1 .0 .now)) (λ c. (c .exit .0 .now, c .exit .1 .1 .1 .0 .now))
+    (λ g. pullCall (g .0) (g .1) (g .2 .0) (g .3))
+
+-- ---- those that read one
+
+abbrev pub winner : Exported
+winner = exported winnerK.ps winnerR.Asked winnerR.Learnt (List ℕ × Id × List ℕ) (List ℕ)
+    (λ c. (c .args .0 .now, c .args .1 .0 .now, c .args .1 .1 .0 .now)) (λ c. c .exit .1 .1 .0 .now)
+    (λ g. winnerCall (g .0) (g .1) (g .2))
+
+abbrev pub leaves : Exported
+leaves = exported leavesK.ps leavesR.Asked leavesR.Learnt (List ℕ × Id × List ℕ) (List ℕ)
+    (λ c. (c .args .0 .now, c .args .1 .0 .now, c .args .1 .1 .0 .now)) (λ c. c .exit .1 .1 .0 .now)
+    (λ g. leavesCall (g .0) (g .1) (g .2))
+
+abbrev pub path : Exported
+path = exported pathK.ps pathR.Asked pathR.Learnt (List ℕ × Id × ℕ × List ℕ × List ℕ) (List ℕ)
+    (λ c. (c .args .0 .now, c .args .1 .0 .now, c .args .1 .1 .0, c .args .1 .1 .1 .0 .now, c .args .1 .1 .1 .1 .0 .now)) (λ c. c .exit .1 .1 .1 .1 .0 .now)
+    (λ g. pathCall (g .0) (g .1) (g .2) (g .3) (g .4))
+
+abbrev pub missing : Exported
+missing = exported missingK.ps missingR.Asked missingR.Learnt (List ℕ × Id × List ℕ × List ℕ) (List ℕ)
+    (λ c. (c .args .0 .now, c .args .1 .0 .now, c .args .1 .1 .0 .now, c .args .1 .1 .1 .0 .now)) (λ c. c .exit .1 .1 .1 .0 .now)
+    (λ g. missingCall (g .0) (g .1) (g .2) (g .3))
+
+abbrev pub changes : Exported
+changes = exported changesK.ps changesR.Asked changesR.Learnt (List ℕ × Seq × List ℕ × List ℕ) (List ℕ × List ℕ)
+    (λ c. (c .args .0 .now, record { 0 = c .args .1 .0 }, c .args .1 .1 .0 .now, c .args .1 .1 .1 .0 .now)) (λ c. (c .exit .1 .1 .0 .now, c .exit .1 .1 .1 .0 .now))
+    (λ g. changesCall (g .0) (g .1 .0) (g .2) (g .3))
+
+abbrev pub sequence : Exported
+sequence = exported sequenceK.ps sequenceR.Asked sequenceR.Learnt (List ℕ) (Unit {0})
+    (λ c. c .args .0 .now) (λ c. tt)
+    (λ g. sequenceCall g)
+
+abbrev pub counts : Exported
+counts = exported countsK.ps countsR.Asked countsR.Learnt (List ℕ × List ℕ) (List ℕ)
+    (λ c. (c .args .0 .now, c .args .1 .0 .now)) (λ c. c .exit .1 .0 .now)
+    (λ g. countsCall (g .0) (g .1))
+
+-- ---- those that are lent any bytes
+
+abbrev pub report : Exported
+report = exported reportK.ps reportR.Asked reportR.Learnt (List ℕ × List ℕ) (List ℕ)
+    (λ c. (c .args .0 .now, c .args .1 .0 .now)) (λ c. c .exit .1 .0 .now)
+    (λ g. reportCall (g .0) (g .1))
+
+-- ---- calls of which more is said than their arguments
+
+-- refile_load of bytes, as those of C are
 pub record LoadCall (s image : List ℕ) (r : ℕ) (left : List ℕ) : Type 0 where
-  pub call : Call _ load.ps load.r load'.Asked load'.Learnt
-  pub replica : call .args .0 .now ≡ s
-  pub loaded : call .args .1 .0 .now ≡ image
+  pub call : Called load (s, image) r left
   pub given : Bytes image
-  pub answers : call .result ≡ r
-  pub leaves : call .exit .0 .now ≡ left
 
-pub record SaveCall (s out : List ℕ) (r : ℕ) (left : List ℕ) : Type 0 where
-  pub call : Call _ save.ps save.r save'.Asked save'.Learnt
-  pub replica : call .args .0 .now ≡ s
-  pub lent : call .args .1 .0 .now ≡ out
-  pub answers : call .result ≡ r
-  pub leaves : call .exit .1 .0 .now ≡ left
+-- what is given for the write w: its content is a kind and a label
+abbrev pub forWrite : List ℕ → Write → write .Given
+forWrite s w = (s, w .id, w .number .0, w .path, contentKind (w .content), contentLabel (w .content))
 
--- ---- those that change it
-
--- the write w, its content given as a kind and a label
 pub record WriteCall (s : List ℕ) (w : Write) (r : ℕ) (left : List ℕ) : Type 0 where
-  pub call : Call _ write.ps write.r write'.Asked write'.Learnt
-  pub replica : call .args .0 .now ≡ s
-  pub id : call .args .1 .0 .now ≡ w .id
-  pub number : call .args .1 .1 .0 ≡ w .number .0
-  pub path : call .args .1 .1 .1 .0 .now ≡ w .path
-  pub kind : call .args .1 .1 .1 .1 .0 ≡ contentKind (w .content)
-  pub label : call .args .1 .1 .1 .1 .1 .0 ≡ contentLabel (w .content)
+  pub call : Called write (forWrite s w) r left
   pub given : IsWrite w
-  pub answers : call .result ≡ r
-  pub leaves : call .exit .0 .now ≡ left
 
--- the edit e, its parent given as a flag, a number and a hash, which say nothing where none is named. Its new
--- hash has sixteen bytes, as that of every accepted edit: 104 refuses any other
+-- a parent is a flag, a number and a hash, which say nothing where none is named
+abbrev pub parentNamed : Option Revision → ℕ
+parentNamed p = maybe 0 (λ v. 1) p
+
+abbrev pub parentNumber : Option Revision → ℕ
+parentNumber p = maybe 0 (λ v. v .number .0) p
+
+abbrev pub parentHash : Option Revision → List ℕ
+parentHash p = maybe [] (λ v. v .hash) p
+
+-- what is given for the edit e
+abbrev pub forEdit : List ℕ → Edit → edit .Given
+forEdit s e = (
+  s,
+  e .id,
+  e .hash,
+  contentKind (e .content),
+  contentLabel (e .content),
+  parentNamed (e .parent),
+  parentNumber (e .parent),
+  parentHash (e .parent),
+)
+
+-- its new hash has sixteen bytes, as that of every accepted edit: 104 refuses any other
 pub record EditCall (s : List ℕ) (e : Edit) (r : ℕ) (left : List ℕ) : Type 0 where
-  pub call : Call _ edit.ps edit.r edit'.Asked edit'.Learnt
-  pub replica : call .args .0 .now ≡ s
-  pub id : call .args .1 .0 .now ≡ e .id
-  pub hash : call .args .1 .1 .0 .now ≡ e .hash
-  pub kind : call .args .1 .1 .1 .0 ≡ contentKind (e .content)
-  pub label : call .args .1 .1 .1 .1 .0 ≡ contentLabel (e .content)
-  pub named : call .args .1 .1 .1 .1 .1 .0 ≡ maybe 0 (λ v. 1) (e .parent)
-  pub number : call .args .1 .1 .1 .1 .1 .1 .0 ≡ maybe 0 (λ v. v .number .0) (e .parent)
-  pub parent : call .args .1 .1 .1 .1 .1 .1 .1 .0 .now ≡ maybe [] (λ v. v .hash) (e .parent)
+  pub call : Called edit (forEdit s e) r left
   pub given : IsEdit e
-  pub answers : call .result ≡ r
-  pub leaves : call .exit .0 .now ≡ left
-
-pub record PullCall (target source : List ℕ) (after : Seq) (answer : List ℕ) (r : ℕ) (left answered : List ℕ) : Type 0 where
-  pub call : Call _ pull.ps pull.r pull'.Asked pull'.Learnt
-  pub into : call .args .0 .now ≡ target
-  pub from : call .args .1 .0 .now ≡ source
-  pub sequence : call .args .1 .1 .0 ≡ after .0
-  pub lent : call .args .1 .1 .1 .0 .now ≡ answer
-  pub answers : call .result ≡ r
-  pub leaves : call .exit .0 .now ≡ left
-  pub writes : call .exit .1 .1 .1 .0 .now ≡ answered
-
--- ---- those that read it
-
-pub record WinnerCall (s : List ℕ) (i : Id) (out : List ℕ) (r : ℕ) (left : List ℕ) : Type 0 where
-  pub call : Call _ winner.ps winner.r winner'.Asked winner'.Learnt
-  pub replica : call .args .0 .now ≡ s
-  pub id : call .args .1 .0 .now ≡ i
-  pub lent : call .args .1 .1 .0 .now ≡ out
-  pub answers : call .result ≡ r
-  pub leaves : call .exit .1 .1 .0 .now ≡ left
-
-pub record LeavesCall (s : List ℕ) (i : Id) (out : List ℕ) (r : ℕ) (left : List ℕ) : Type 0 where
-  pub call : Call _ leaves.ps leaves.r leaves'.Asked leaves'.Learnt
-  pub replica : call .args .0 .now ≡ s
-  pub id : call .args .1 .0 .now ≡ i
-  pub lent : call .args .1 .1 .0 .now ≡ out
-  pub answers : call .result ≡ r
-  pub leaves : call .exit .1 .1 .0 .now ≡ left
-
-pub record PathCall (s : List ℕ) (i : Id) (v : Revision) (out : List ℕ) (r : ℕ) (left : List ℕ) : Type 0 where
-  pub call : Call _ path.ps path.r path'.Asked path'.Learnt
-  pub replica : call .args .0 .now ≡ s
-  pub id : call .args .1 .0 .now ≡ i
-  pub number : call .args .1 .1 .0 ≡ v .number .0
-  pub hash : call .args .1 .1 .1 .0 .now ≡ v .hash
-  pub lent : call .args .1 .1 .1 .1 .0 .now ≡ out
-  pub answers : call .result ≡ r
-  pub leaves : call .exit .1 .1 .1 .1 .0 .now ≡ left
-
-pub record MissingCall (s : List ℕ) (i : Id) (asked out : List ℕ) (r : ℕ) (left : List ℕ) : Type 0 where
-  pub call : Call _ missing.ps missing.r missing'.Asked missing'.Learnt
-  pub replica : call .args .0 .now ≡ s
-  pub id : call .args .1 .0 .now ≡ i
-  pub list : call .args .1 .1 .0 .now ≡ asked
-  pub lent : call .args .1 .1 .1 .0 .now ≡ out
-  pub answers : call .result ≡ r
-  pub leaves : call .exit .1 .1 .1 .0 .now ≡ left
-
--- both what it writes of the id and what it answers
-pub record ChangesCall (s : List ℕ) (after : Seq) (out answer : List ℕ) (r : ℕ) (left answered : List ℕ) : Type 0 where
-  pub call : Call _ changes.ps changes.r changes'.Asked changes'.Learnt
-  pub replica : call .args .0 .now ≡ s
-  pub sequence : call .args .1 .0 ≡ after .0
-  pub lent : call .args .1 .1 .0 .now ≡ out
-  pub lent-answer : call .args .1 .1 .1 .0 .now ≡ answer
-  pub answers : call .result ≡ r
-  pub leaves : call .exit .1 .1 .0 .now ≡ left
-  pub writes : call .exit .1 .1 .1 .0 .now ≡ answered
-
-pub record SequenceCall (s : List ℕ) (r : ℕ) : Type 0 where
-  pub call : Call _ sequence.ps sequence.r sequence'.Asked sequence'.Learnt
-  pub replica : call .args .0 .now ≡ s
-  pub answers : call .result ≡ r

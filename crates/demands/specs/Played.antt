@@ -10,7 +10,8 @@ use Rattle.rules.specs.Room.{revisionsMost}
 use Rattle.rules.specs.Write.{Write}
 use Rattle.tree.specs.Leaf.{leafSize}
 use Rattle.refile.specs.Decode.{valueIn, decode}
-use Rattle.demands.specs.Calls.{IsAccepted, FreshCall, SaveCall, WriteCall, WinnerCall, LeavesCall, SequenceCall}
+use Rattle.demands.specs.Calls as C
+use Rattle.demands.specs.Calls.{IsAccepted, Called, WriteCall}
 
 -- the reads of the replica in s: its update sequence, and of document "lot" the leaves and the winner, with
 -- room for every leaf
@@ -18,13 +19,13 @@ pub record Reads (s : List ℕ) : Type 0 where
   pub out : List ℕ
   pub room : revisionsMost * leafSize ≤ length out
   pub sequence : ℕ
-  pub asks-sequence : SequenceCall s sequence
+  pub asks-sequence : Called C.sequence s sequence tt
   pub count : ℕ
   pub leaves : List ℕ
-  pub asks-leaves : LeavesCall s lot out count leaves
+  pub asks-leaves : Called C.leaves (s, lot, out) count leaves
   pub size : ℕ
   pub winner : List ℕ
-  pub asks-winner : WinnerCall s lot out size winner
+  pub asks-winner : Called C.winner (s, lot, out) size winner
 
 -- a leaf's number and the first byte of its hash, from its 29 bytes
 abbrev pub pairIn : List ℕ → ℕ × ℕ
@@ -44,7 +45,7 @@ seenIn r s k =
 
 pub record Fresh (s left : List ℕ) : Type 0 where
   pub result : ℕ
-  pub fresh : FreshCall s result left
+  pub fresh : Called C.fresh s result left
   pub accepted : IsAccepted result
 
 pub record Writes (s : List ℕ) (w : Write) (left : List ℕ) (seen : Seen) : Type 0 where
@@ -56,7 +57,7 @@ pub record Writes (s : List ℕ) (w : Write) (left : List ℕ) (seen : Seen) : T
 pub record Saves (s : List ℕ) (seen : Seen) : Type 0 where
   pub result : ℕ
   pub left : List ℕ
-  pub save : SaveCall s (replicate 16 0xee) result left
+  pub save : Called C.save (s, replicate 16 0xee) result left
   pub sees : seen ≡ saved (decode result) left
 
 -- the steps run from the bytes s, and what is seen after each

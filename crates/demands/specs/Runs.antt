@@ -7,7 +7,8 @@ use Rattle.rules.specs.declared.Seq.{Seq}
 use Rattle.rules.specs.Bytes.{value, part}
 use Rattle.rules.specs.Union.{allFrom}
 use Rattle.rules.specs.Write.{Write}
-use Rattle.demands.specs.Calls.{IsAccepted, FreshCall, WriteCall, PullCall}
+use Rattle.demands.specs.Calls as C
+use Rattle.demands.specs.Calls.{IsAccepted, Called, WriteCall}
 
 -- ---- writes
 
@@ -26,7 +27,7 @@ pub record Made (ws : List Write) (left : List ℕ) : Type 0 where
   pub buffer : List ℕ
   pub made : List ℕ
   pub result : ℕ
-  pub fresh : FreshCall buffer result made
+  pub fresh : Called C.fresh buffer result made
   pub accepted : IsAccepted result
   pub writes : WriteCalls ws made left
 
@@ -45,7 +46,7 @@ pub record Pulls (source : List ℕ) (q : Seq) (target : List ℕ) (c : Counts) 
   pub answer : List ℕ
   pub answered : List ℕ
   pub result : ℕ
-  pub pull : PullCall target source q answer result left answered
+  pub pull : Called C.pull (target, source, q, answer) result (left, answered)
   pub accepted : IsAccepted result
   pub counts : countsIn answered ≡ c
 

@@ -1,7 +1,7 @@
 -- The calls that change a replica. Assumes nothing.
 use mathlib.Core.Path.{_≡_, refl, ap, _∙_}
-use mathlib.Core.Bool.{Bool, true, false, not}
-use mathlib.Core.List.{List, [], _∷_, _++_}
+use mathlib.Core.Bool.{Bool, true, false}
+use mathlib.Core.List.{List, [], _∷_}
 use mathlib.Core.Option.{Option, none, some}
 use Prim.Native.Nat.{ℕ, zero, suc, _≤_, _<_}
 use lib.ListN.{length}
@@ -13,18 +13,17 @@ use Rattle.rules.specs.declared.Content.{Content}
 use Rattle.rules.specs.declared.Counts.{Counts}
 use Rattle.rules.specs.declared.Edited.{Edited}
 use Rattle.rules.specs.declared.Fault.{Fault}
-use Rattle.rules.specs.declared.Fault.the-variants.{TooShort, BadEdition, BadHead, BadContents, BadSequence, BadRow, BadParent}
 use Rattle.rules.specs.declared.Loaded.{Loaded}
 use Rattle.rules.specs.declared.Loaded.the-variants as loaded
 use Rattle.rules.specs.declared.Revision.{Revision}
-use Rattle.rules.specs.declared.RevNumber.{RevNumber}
 use Rattle.rules.specs.declared.Written.{Written}
-use Rattle.rules.specs.Answer.{Numbered, refused, editedNumber, loadedNumber}
+use Rattle.rules.specs.Answer.{refused, writtenNumber, editedNumber, loadedNumber}
 use Rattle.rules.specs.Bytes.{part}
 use Rattle.rules.specs.Choice.{firstThat}
-use Rattle.rules.specs.Image.{faults}
+use Rattle.rules.specs.Faults.{faults}
 use Rattle.rules.specs.Pull.{pull}
 use Rattle.rules.specs.Read.{front}
+use Rattle.rules.specs.Refusal.{faultNumber}
 use Rattle.rules.specs.Replica.{Replica, revision, fresh}
 use Rattle.rules.specs.Room.{hashSize}
 use Rattle.octets.specs.Octets.{IsHash}
@@ -32,16 +31,16 @@ use Rattle.union.proofs.Demand3.{fresh-is-replica}
 use Rattle.store.specs.Change.{Holds}
 use Rattle.store.specs.Storage.{storeSize, replicaOf, IsStored}
 use Rattle.writes.specs.Judge.{Wrote}
-use Rattle.writes.specs.Edit.{editOf}
 use Rattle.writes.specs.Path.{writeOf}
-use Rattle.edits.specs.Edit.{EditDone}
-use Rattle.reads.proofs.AnswerLaws.{first-past, first-some}
+use Rattle.edits.specs.Edit.{editOf, EditDone}
 use Rattle.report.proofs.FaultLaws.{place-most}
 use Rattle.codec.specs.Codec.{loadBytes, Loads}
 use Rattle.pulls.specs.Pulls.{Pulled}
-use Rattle.refile.specs.Boundary.{result, SmallPlace, call, Keeps, House, firstHouse, lentHouse, badKind, badLabel, badFlag, badHash, badNoParent, parentHouse, editHouse, shortAnswer, contentFrom, parentFrom, countBytes, loadCall, editCall, pullCall}
+use Rattle.refile.specs.Boundary.{refusedFrom, resultOf, result, SmallPlace, Keeps, House, lentHouse, badKind, badLabel, badFlag, badHash}
+use Rattle.refile.specs.Boundary.{badNoParent, parentHouse, editHouse, shortAnswer, contentFrom, parentFrom, countBytes, loadCall, writeCall, editCall, pullCall}
 use Rattle.refile.proofs.AnswerLaws.{short-answer, room-answer}
-use Rattle.refile.proofs.CallLaws.{first-passes, all-pass, sized, house-stops, house-passes, none-first, clear, not-false, made, refuses, accepts}
+use Rattle.refile.proofs.CallLaws.{sized, none-first, clear, not-false, past, stop, does, keeps, accepts, more-refuses, lent-does}
+use Rattle.refile.proofs.NumberLaws.{fault-small}
 
 -- ---- the house refusals of a content
 
@@ -84,15 +83,6 @@ module _ (f n : ℕ) (h : List ℕ) where
   pub parent-none : (f ≡ 1 → ⊥) → n ≡ 0 → length h ≡ 0 → House (parentHouse f n h ∷ []) 0
   unfolding parentHouse badNoParent firstThat
   parent-none e z l = record { first = rw (ne-eqb f 1 e, eq-eqb n 0 z, eq-eqb (length h) 0 l); most = omega arith }
-
--- past house refusals that do not hold, and with one that does
-past : (ts us : List (Bool × ℕ)) (n : ℕ) → House ts n → n ≡ 0 → firstThat (ts ++ us) ≡ firstThat us
-past ts us zero h e = first-past ts us (h .first)
-past ts us (suc n) h e = absurd (omega arith)
-
-stop : (ts us : List (Bool × ℕ)) (n : ℕ) → House ts n → (n ≡ 0 → ⊥) → firstThat (ts ++ us) ≡ firstHouse n
-stop ts us zero h ne = absurd (ne refl)
-stop ts us (suc n) h ne = first-some ts us (suc n) (h .first)
 
 flag-high : (f : ℕ) → 1 < f → badFlag f .0 ≡ true
 unfolding badFlag
@@ -167,7 +157,7 @@ parent-is-none f v w ne = rw (ne-eqb f 1 ne)
 module _ (s i hash : List ℕ) (k l f n : ℕ) (parent : List ℕ) (fine : firstThat (lentHouse s) ≡ none) where
   pub edit-refused : (m r : ℕ) → House (editHouse hash k l f n parent) m → (m ≡ 0 → ⊥) → r ≡ result (refused m) → Keeps (editCall s i hash k l f n parent) r s s
   unfolding editCall
-  edit-refused m r h ne e = refuses m (first-passes s _ _ _ fine ∙ house-stops s _ _ m h ne) ne e refl
+  edit-refused m r h ne e = keeps m ne e (more-refuses s _ fine m h ne e)
 
   pub edit-done : (m : ℕ) (h : List ℕ) (c : Content) (v : Revision) (a : Edited) (left : List ℕ) (r : ℕ) → House (editHouse hash k l f n parent) m → m ≡ 0
       → IsHash hash 0 h → c ≡ contentFrom k l → parentFrom f v ≡ parentFrom f (revision n parent)
@@ -178,14 +168,21 @@ module _ (s i hash : List ℕ) (k l f n : ℕ) (parent : List ℕ) (fine : first
       let whole : editOf i h c (eqb f 1) v ≡ record { id = i; hash = hash; content = contentFrom k l; parent = parentFrom f (revision n parent) }
       = λ x. record { id = i; hash = same x; content = e x; parent = p x } in
       let w : EditDone s (record { id = i; hash = hash; content = contentFrom k l; parent = parentFrom f (revision n parent) }) a left = rw whole at d in
-      accepts (made (first-passes s _ _ _ fine ∙ house-passes s _ _ m house z) (q ∙ ap (λ (x : Edited). result (editedNumber x)) (w .answer)) (w .left)) (w .is)
+      accepts (lent-does s _ fine (none-first _ m house z) refl (q ∙ ap (λ (x : Edited). result (editedNumber x)) (w .answer)) (w .left)) (w .is)
 
 -- ---- the path write
 
--- what it promises of the content that a kind and a label are
-pub wrote-content : (s i : List ℕ) (n : RevNumber) (p : List ℕ) (c d : Content) (a : Written) (left : List ℕ) → c ≡ d
-    → Wrote s (writeOf i n p c) a left → Wrote s (writeOf i n p d) a left
-wrote-content s i n p c d a left e h = rw e at h
+module _ (s i : List ℕ) (n : ℕ) (p : List ℕ) (k l : ℕ) (fine : firstThat (lentHouse s) ≡ none) where
+  pub write-refused : (m r : ℕ) → House (badKind k ∷ badLabel k l ∷ []) m → (m ≡ 0 → ⊥) → r ≡ result (refused m) → Keeps (writeCall s i n p k l) r s s
+  unfolding writeCall
+  write-refused m r h ne e = keeps m ne e (more-refuses s _ fine m h ne e)
+
+  pub write-done : (m : ℕ) (c : Content) (a : Written) (left : List ℕ) (r : ℕ) → House (badKind k ∷ badLabel k l ∷ []) m → m ≡ 0 → c ≡ contentFrom k l
+      → Wrote s (writeOf i (record { 0 = n }) p c) a left → r ≡ result (writtenNumber a) → Keeps (writeCall s i n p k l) r left left
+  unfolding writeCall
+  write-done m c a left r house z e d q =
+      let w : Wrote s (writeOf i (record { 0 = n }) p (contentFrom k l)) a left = rw e at d in
+      accepts (lent-does s _ fine (none-first _ m house z) refl (q ∙ ap (λ (x : Written). result (writtenNumber x)) (w .answer)) (w .left)) (w .is)
 
 -- ---- fresh and load
 
@@ -201,24 +198,19 @@ loaded-small before image answer after l = rw (l .does .answers) (go (firstThat 
     go (some f) e = let m = place-most image f e in omega arith
 
 -- a result below 2^63 is not that of a fault
-loaded-accepted : (a : Loaded) (r : ℕ) → r ≡ result (loadedNumber a) → r < 9223372036854775808 → a ≡ loaded.Accepted
+loaded-accepted : (a : Loaded) (r : ℕ) → r ≡ result (loadedNumber a) → r < refusedFrom → a ≡ loaded.Accepted
 loaded-accepted loaded.Accepted r e h = refl
-loaded-accepted (loaded.Refused f p) r e h = absurd (high f e)
+loaded-accepted (loaded.Refused f p) r e h = absurd (high (faultNumber f) (fault-small f .0) e)
   where
-    high : (f : Fault) → r ≡ result (loadedNumber (loaded.Refused f p)) → ⊥
-    high TooShort q = omega arith
-    high BadEdition q = omega arith
-    high BadHead q = omega arith
-    high BadContents q = omega arith
-    high BadSequence q = omega arith
-    high BadRow q = omega arith
-    high BadParent q = omega arith
+    high : (n : ℕ) → 1 ≤ n → r ≡ resultOf n p → ⊥
+    high zero k q = omega arith
+    high (suc n) k q = omega arith
 
 pub loads-on : (s image : List ℕ) (answer : Loaded) (left : List ℕ) (r : ℕ) → length s ≡ storeSize → Loads s image answer left → r ≡ result (loadedNumber answer)
     → Keeps (loadCall s image) r left left
 unfolding loadCall
 loads-on s image answer left r size l e = record {
-  calls = made (sized s _ s size) (e ∙ ap (λ (a : Loaded). result (loadedNumber a)) (l .does .answers)) (l .does .leaves);
+  calls = does (sized s size) refl (e ∙ ap (λ (a : Loaded). result (loadedNumber a)) (l .does .answers)) (l .does .left);
   stands = λ h. l .accepted (loaded-accepted answer r e h);
 }
 
@@ -228,13 +220,9 @@ module _ (t s answer : List ℕ) (q : ℕ) (tfine : firstThat (lentHouse t) ≡ 
   abbrev pulled : Counts × Replica
   pulled = pull (record { 0 = q }) (replicaOf s) (replicaOf t)
 
-  both-pass : (o : Numbered × (List ℕ × List ℕ)) → call (lentHouse t ++ lentHouse s) (t, answer) o ≡ (result (o .0), o .1)
-  both-pass o = first-passes (t, answer) o (lentHouse t) (lentHouse s) tfine ∙ all-pass (t, answer) o (lentHouse s) sfine
-
   pub pull-short : (r : ℕ) → length answer < 12 → r ≡ result (refused 14) → Keeps (pullCall t s q answer) r (t, answer) t
   unfolding pullCall countBytes shortAnswer
-  pull-short r h e =
-      refuses 14 (both-pass _ ∙ ap (λ (o : Numbered × (List ℕ × List ℕ)). (result (o .0), o .1)) (short-answer _ _ _ answer h)) (λ z. omega arith) e refl
+  pull-short r h e = keeps 14 (λ z. omega arith) e (lent-does t _ tfine sfine (short-answer _ _ _ answer h) e refl)
 
   pub pull-done : (c : Counts) (left answer′ : List ℕ) → 12 ≤ length answer → Pulled (record { 0 = q }) s t c left → answer′ ≡ front (countBytes c) answer
       → Keeps (pullCall t s q answer) 0 (left, answer′) left
@@ -242,4 +230,4 @@ module _ (t s answer : List ℕ) (q : ℕ) (tfine : firstThat (lentHouse t) ≡ 
   pull-done c left answer′ h p e =
       let b = p .bytes in
       let f : answer′ ≡ front (countBytes (pulled .0)) answer = e ∙ ap (λ (n : Counts). front (countBytes n) answer) (p .counts) in
-      accepts (made (both-pass _ ∙ ap (λ (o : Numbered × (List ℕ × List ℕ)). (result (o .0), o .1)) (room-answer _ _ _ answer h)) refl (λ i. (b i, f i))) (p .is-stored)
+      accepts (lent-does t _ tfine sfine (room-answer _ _ _ answer h) refl (λ i. (b i, f i))) (p .is-stored)

@@ -59,7 +59,7 @@ pub refile-pull-outcome :
 refile-pull-outcome κs a x y s t h p q = keeps-one p q
 
 pub refile-update-sequence-outcome : OneOutcome _ sequence.ps sequence.r sequence'.Asked sequence'.Learnt nothing
-refile-update-sequence-outcome κs a x y s t h p q = (fixed p q, refl)
+refile-update-sequence-outcome κs a x y s t h p q = calls-one p q
 
 pub refile-winner-outcome : OneOutcome _ winner.ps winner.r winner'.Asked winner'.Learnt (λ κs s. s .1 .1 .0 .now)
 refile-winner-outcome κs a x y s t h p q = calls-one p q

@@ -7,6 +7,7 @@ use mathlib.Core.Option.{Option, none, some}
 use Prim.Native.Nat.{ℕ, zero, suc, _+_, _*_, _<_, _≤_}
 use lib.Dec.{eqb, ltb}
 use lib.ListN.{length}
+use Rattle.rules.specs.declared.Answered.{Answered}
 use Rattle.rules.specs.declared.Change.{Change}
 use Rattle.rules.specs.declared.Changes.{Changes}
 use Rattle.rules.specs.declared.Changes.the-variants as changes
@@ -21,10 +22,13 @@ use Rattle.rules.specs.Answer.{Numbered, accepted, refused, writtenNumber, edit
 use Rattle.rules.specs.Bytes.{be}
 use Rattle.rules.specs.Choice.{pick, maybe, firstThat}
 use Rattle.rules.specs.Edit.{Edit, edit}
-use Rattle.rules.specs.Image.{headOf, faults, save}
+use Rattle.rules.specs.Faults.{faults}
+use Rattle.rules.specs.Image.{save}
+use Rattle.rules.specs.Layout.{headOf}
 use Rattle.rules.specs.Pull.{pull}
 use Rattle.rules.specs.Read.{readWinner, readLeaves, readPath, readMissing, readChanges, heldIn, front}
 use Rattle.rules.specs.Refusal.{refusalNumber}
+use Rattle.rules.specs.declared.Refusal.{Refusal}
 use Rattle.rules.specs.declared.Refusal.the-variants.{ShortBuffer}
 use Rattle.rules.specs.Replica.{Id, fresh, revision}
 use Rattle.rules.specs.Report.{readReport}
@@ -35,13 +39,23 @@ use Rattle.store.specs.Storage.{storeSize, stored, replicaOf, IsStored}
 
 -- ---- one number for each outcome
 
+-- 2^63: a result from here on is a refusal
+abbrev pub refusedFrom : ℕ
+refusedFrom = 9223372036854775808
+
 -- an accepted call's answer; of a refused one 2^63, the refusal's number times 2^32, and the place
 abbrev pub resultOf : ℕ → ℕ → ℕ
 resultOf zero v = v
-resultOf (suc n) v = 9223372036854775808 + suc n * 4294967296 + v
+resultOf (suc n) v = refusedFrom + suc n * 4294967296 + v
 
 abbrev pub result : Numbered → ℕ
 result n = resultOf (n .refusal) (n .value)
+
+-- n is the number of a refusal, which is one of fifteen
+pub record RefusalOf (r : Refusal) (n : ℕ) : Type 0 where
+  pub is : n ≡ refusalNumber r
+  pub least : 1 ≤ n
+  pub most : n ≤ 15
 
 -- a place that the lower half holds
 abbrev pub SmallPlace : Loaded → Type 0
@@ -82,19 +96,28 @@ badHash h = (not (eqb (length h) hashSize), 104)
 unfoldable pub badNoParent : ℕ → List ℕ → Bool × ℕ
 badNoParent n h = (not (eqb n 0 && eqb (length h) 0), 105)
 
--- a house refusal comes first and leaves what was lent
-unfoldable pub call : {L : Type 0} → List (Bool × ℕ) → L → Numbered × L → ℕ × L
-call house lent o = maybe (result (o .0), o .1) (λ n. (result (refused n), lent)) (firstThat house)
+-- ---- a call
 
--- a call that answers r, and leaves what was lent to be changed, as o says
-pub record Calls {L : Type 0} (o : ℕ × L) (r : ℕ) (left : L) : Type 0 where
-  pub answers : r ≡ o .0
-  pub leaves : left ≡ o .1
+-- what a call is asked: the house refusals that it tries, what is lent to it to be changed, and what it
+-- says and leaves past them
+pub record CCall (L : Type 0) : Type 0 where
+  pub house : List (Bool × ℕ)
+  pub lent : L
+  pub does : Numbered × L
+
+-- a house refusal comes first and leaves what was lent
+unfoldable pub outcome : {L : Type 0} → CCall L → Numbered × L
+outcome c = maybe (c .does) (λ n. (refused n, c .lent)) (firstThat (c .house))
+
+-- a call that answers r, and leaves what was lent to be changed, as its outcome says
+pub record Calls {L : Type 0} (c : CCall L) (r : ℕ) (buffer : L) : Type 0 where
+  pub answers : r ≡ result (outcome c .0)
+  pub left : buffer ≡ outcome c .1
 
 -- such a call of what is lent a replica's buffer: where it accepts, it leaves a replica there
-pub record Keeps {L : Type 0} (o : ℕ × L) (r : ℕ) (left : L) (replica : List ℕ) : Type 0 where
-  pub calls : Calls o r left
-  pub stands : r < 9223372036854775808 → IsStored replica
+pub record Keeps {L : Type 0} (c : CCall L) (r : ℕ) (buffer : L) (replica : List ℕ) : Type 0 where
+  pub calls : Calls c r buffer
+  pub stands : r < refusedFrom → IsStored replica
 
 -- the number of the first house refusal, 0 if there is none
 abbrev pub firstHouse : ℕ → Option ℕ
@@ -118,26 +141,39 @@ unfoldable pub numbers : List ℕ → List ℕ
 numbers [] = []
 numbers (n ∷ ns) = be 4 n ++ numbers ns
 
--- ---- the calls: the result, and what is left of each buffer that was lent to be changed
+-- with room for these bytes in an answer buffer it is done, else 14
+abbrev pub answering : {L : Type 0} → List ℕ → List ℕ → L → Numbered × L → Numbered × L
+answering bytes answer lent done = pick (ltb (length answer) (length bytes)) (shortAnswer, lent) done
 
-unfoldable pub freshCall : List ℕ → ℕ × List ℕ
-freshCall s = call (badReplica s ∷ []) s (accepted 0, stored fresh)
+-- a call that is lent a replica in s
+abbrev pub lentCall : {L : Type 0} → List ℕ → List (Bool × ℕ) → L → Numbered × L → CCall L
+lentCall s house lent does = record { house = lentHouse s ++ house; lent = lent; does = does }
 
-unfoldable pub loadCall : List ℕ → List ℕ → ℕ × List ℕ
+-- one that reads it, with a buffer for what is read
+abbrev pub readCall : List ℕ → List (Bool × ℕ) → List ℕ → Answered × List ℕ → CCall (List ℕ)
+readCall s house out o = lentCall s house out (answeredNumber (o .0), o .1)
+
+-- ---- the calls
+
+unfoldable pub freshCall : List ℕ → CCall (List ℕ)
+freshCall s = record { house = badReplica s ∷ []; lent = s; does = (accepted 0, stored fresh) }
+
+unfoldable pub loadCall : List ℕ → List ℕ → CCall (List ℕ)
 loadCall s image =
-    let o = loadBytes s image (firstThat (faults image)) in call (badReplica s ∷ []) s (loadedNumber (o .0), o .1)
+    let o = loadBytes s image (firstThat (faults image)) in
+    record { house = badReplica s ∷ []; lent = s; does = (loadedNumber (o .0), o .1) }
 
-unfoldable pub saveCall : List ℕ → List ℕ → ℕ × List ℕ
-saveCall s out = let o = save (replicaOf s) out in call (lentHouse s) out (answeredNumber (o .0), o .1)
+unfoldable pub saveCall : List ℕ → List ℕ → CCall (List ℕ)
+saveCall s out = readCall s [] out (save (replicaOf s) out)
 
 abbrev pub contentFrom : ℕ → ℕ → Content
 contentFrom k label = pick (eqb k 1) (Live label) Deleted
 
-unfoldable pub writeCall : List ℕ → Id → ℕ → List ℕ → ℕ → ℕ → ℕ × List ℕ
+unfoldable pub writeCall : List ℕ → Id → ℕ → List ℕ → ℕ → ℕ → CCall (List ℕ)
 writeCall s i number path kind label =
     let w : Write = record { id = i; number = record { 0 = number }; path = path; content = contentFrom kind label } in
     let o = write (replicaOf s) w in
-    call (lentHouse s ++ (badKind kind ∷ badLabel kind label ∷ [])) s (writtenNumber (o .0), stored (o .1))
+    lentCall s (badKind kind ∷ badLabel kind label ∷ []) s (writtenNumber (o .0), stored (o .1))
 
 -- 104 of a parent that is named, else 105
 unfoldable pub parentHouse : ℕ → ℕ → List ℕ → Bool × ℕ
@@ -157,7 +193,7 @@ editHouse hash kind label named number parent =
 abbrev pub parentFrom : ℕ → Revision → Option Revision
 parentFrom named parent = pick (eqb named 1) (some parent) none
 
-unfoldable pub editCall : List ℕ → Id → List ℕ → ℕ → ℕ → ℕ → ℕ → List ℕ → ℕ × List ℕ
+unfoldable pub editCall : List ℕ → Id → List ℕ → ℕ → ℕ → ℕ → ℕ → List ℕ → CCall (List ℕ)
 editCall s i hash kind label named number parent =
     let e : Edit = record {
       id = i;
@@ -166,22 +202,19 @@ editCall s i hash kind label named number parent =
       parent = parentFrom named (revision number parent);
     } in
     let o = edit (replicaOf s) e in
-    call (lentHouse s ++ editHouse hash kind label named number parent) s (editedNumber (o .0), stored (o .1))
+    lentCall s (editHouse hash kind label named number parent) s (editedNumber (o .0), stored (o .1))
 
-unfoldable pub winnerCall : List ℕ → Id → List ℕ → ℕ × List ℕ
-winnerCall s i out = let o = readWinner (replicaOf s) i out in call (lentHouse s) out (answeredNumber (o .0), o .1)
+unfoldable pub winnerCall : List ℕ → Id → List ℕ → CCall (List ℕ)
+winnerCall s i out = readCall s [] out (readWinner (replicaOf s) i out)
 
-unfoldable pub leavesCall : List ℕ → Id → List ℕ → ℕ × List ℕ
-leavesCall s i out = let o = readLeaves (replicaOf s) i out in call (lentHouse s) out (answeredNumber (o .0), o .1)
+unfoldable pub leavesCall : List ℕ → Id → List ℕ → CCall (List ℕ)
+leavesCall s i out = readCall s [] out (readLeaves (replicaOf s) i out)
 
-unfoldable pub pathCall : List ℕ → Id → ℕ → List ℕ → List ℕ → ℕ × List ℕ
-pathCall s i number hash out =
-    let o = readPath (replicaOf s) i (revision number hash) out in
-    call (lentHouse s ++ (badHash hash ∷ [])) out (answeredNumber (o .0), o .1)
+unfoldable pub pathCall : List ℕ → Id → ℕ → List ℕ → List ℕ → CCall (List ℕ)
+pathCall s i number hash out = readCall s (badHash hash ∷ []) out (readPath (replicaOf s) i (revision number hash) out)
 
-unfoldable pub missingCall : List ℕ → Id → List ℕ → List ℕ → ℕ × List ℕ
-missingCall s i asked out =
-    let o = readMissing (replicaOf s) i asked out in call (lentHouse s) out (answeredNumber (o .0), o .1)
+unfoldable pub missingCall : List ℕ → Id → List ℕ → List ℕ → CCall (List ℕ)
+missingCall s i asked out = readCall s [] out (readMissing (replicaOf s) i asked out)
 
 abbrev pub flagNumber : Bool → ℕ
 flagNumber false = 0
@@ -194,40 +227,39 @@ changeBytes c = numbers (c .«id_len» ∷ c .seq .0 ∷ c .leaves ∷ flagNumbe
 -- both buffers as they are left: the one of the id and the one of the answer
 abbrev pub changesAs : List ℕ → List ℕ → Changes × List ℕ → Numbered × (List ℕ × List ℕ)
 changesAs out answer (changes.Next c, left) =
-    pick (ltb (length answer) (length (changeBytes c))) (shortAnswer, (out, answer))
-    (changesNumber (changes.Next c), (left, front (changeBytes c) answer))
+    answering (changeBytes c) answer (out, answer) (changesNumber (changes.Next c), (left, front (changeBytes c) answer))
 changesAs out answer (changes.NoMore, left) = (changesNumber changes.NoMore, (out, answer))
 changesAs out answer (changes.Refused n, left) = (changesNumber (changes.Refused n), (out, answer))
 
-unfoldable pub changesCall : List ℕ → ℕ → List ℕ → List ℕ → ℕ × (List ℕ × List ℕ)
+unfoldable pub changesCall : List ℕ → ℕ → List ℕ → List ℕ → CCall (List ℕ × List ℕ)
 changesCall s after out answer =
-    call (lentHouse s) (out, answer) (changesAs out answer (readChanges (replicaOf s) (record { 0 = after }) out))
+    lentCall s [] (out, answer) (changesAs out answer (readChanges (replicaOf s) (record { 0 = after }) out))
 
 unfoldable pub countBytes : Counts → List ℕ
 countBytes c = numbers (c .changed ∷ c .unchanged ∷ c .refused ∷ [])
 
 -- the target and the answer buffer as they are left
-unfoldable pub pullCall : List ℕ → List ℕ → ℕ → List ℕ → ℕ × (List ℕ × List ℕ)
+unfoldable pub pullCall : List ℕ → List ℕ → ℕ → List ℕ → CCall (List ℕ × List ℕ)
 pullCall target source after answer =
     let o = pull (record { 0 = after }) (replicaOf source) (replicaOf target) in
-    call (lentHouse target ++ lentHouse source) (target, answer)
-    (pick (ltb (length answer) (length (countBytes (o .0)))) (shortAnswer, (target, answer))
-    (accepted 0, (stored (o .1), front (countBytes (o .0)) answer)))
+    lentCall target (lentHouse source) (target, answer)
+    (answering (countBytes (o .0)) answer (target, answer) (accepted 0, (stored (o .1), front (countBytes (o .0)) answer)))
 
-unfoldable pub sequenceCall : List ℕ → ℕ
-sequenceCall s = call {L = Unit {0}} (lentHouse s) tt (accepted (replicaOf s .seq .0), tt) .0
+-- it is lent nothing to be changed
+unfoldable pub sequenceCall : List ℕ → CCall (Unit {0})
+sequenceCall s = lentCall s [] tt (accepted (replicaOf s .seq .0), tt)
 
 unfoldable pub heldBytes : Held → List ℕ
 heldBytes h = numbers (h .documents ∷ h .revisions ∷ [])
 
-unfoldable pub countsCall : List ℕ → List ℕ → ℕ × List ℕ
+unfoldable pub countsCall : List ℕ → List ℕ → CCall (List ℕ)
 countsCall s answer =
     let bytes = heldBytes (heldIn (replicaOf s)) in
-    call (lentHouse s) answer
-    (pick (ltb (length answer) (length bytes)) (shortAnswer, answer) (accepted 0, front bytes answer))
+    lentCall s [] answer (answering bytes answer answer (accepted 0, front bytes answer))
 
-unfoldable pub reportCall : List ℕ → List ℕ → ℕ × List ℕ
-reportCall image out = let o = readReport image out in (result (answeredNumber (o .0)), o .1)
+-- any bytes are an image to report on, so that it has no house refusal
+unfoldable pub reportCall : List ℕ → List ℕ → CCall (List ℕ)
+reportCall image out = let o = readReport image out in record { house = []; lent = out; does = (answeredNumber (o .0), o .1) }
 
 -- ---- the calls that ask
 

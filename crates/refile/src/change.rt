@@ -19,12 +19,13 @@ use crate::number::written;
 use codec::load;
 use codec::save;
 use edits::edit;
+use layout::SIZE;
 use octets::run::get_hash;
 use pulls::pull;
+use rules::HASH;
 use rules::RevNumber;
 use rules::Revision;
 use rules::Seq;
-use store::SIZE;
 use store::change::make_fresh;
 use writes::write;
 ghost use mathlib.Core.Path.{_≡_};
@@ -34,9 +35,7 @@ ghost use Rattle.rules.specs.Replica.{revision};
 ghost use Rattle.rules.specs.Room.{hashSize};
 ghost use Rattle.refile.specs.Boundary.{Calls, Keeps, House, Lent, badKind, badLabel, parentHouse, editHouse, parentFrom, freshCall, loadCall, saveCall, writeCall, editCall, pullCall};
 
-// A hash, and what pull writes to its answer: three numbers.
-const HASH: usize = 16;
-
+// What pull writes to its answer: three numbers.
 const COUNTS: usize = 12;
 
 #[no_mangle]

@@ -1,19 +1,18 @@
 // One number for each outcome.
+use faults::fault_number;
+use layout::SIZE;
 use octets::number::get2;
 use rules::Answered;
 use rules::Content;
 use rules::Edited;
-use rules::Fault;
 use rules::Loaded;
 use rules::Outcome;
 use rules::Refusal;
 use rules::Written;
-use store::SIZE;
 ghost use mathlib.Core.Path.{_≡_};
 ghost use Prim.Native.Nat.{_+_, _*_, _≤_};
 ghost use Rattle.rules.specs.Answer.{refused, writtenNumber, editedNumber, answeredNumber, loadedNumber};
-ghost use Rattle.rules.specs.Refusal.{refusalNumber, faultNumber};
-ghost use Rattle.refile.specs.Boundary.{result, contentFrom, SmallPlace, House, lentHouse};
+ghost use Rattle.refile.specs.Boundary.{result, contentFrom, RefusalOf, SmallPlace, House, lentHouse};
 
 // The house refusals: what this boundary can get and the rules have no number for.
 pub(crate) const BAD_REPLICA: u64 = 100;
@@ -51,8 +50,9 @@ pub(crate) fn bad_replica(replica: &[u8]) -> u64
     0
 }
 
+// The number of a refusal.
 pub(crate) fn refusal_number(r: Refusal) -> u64
-    ensures { λ n. ⌜ (n ≡ refusalNumber r) × (1 ≤ n) × (n ≤ 15) ⌝ }
+    ensures { λ n. ⌜ RefusalOf r n ⌝ }
 {
     match r {
         Refusal::BadId => 1,
@@ -70,20 +70,6 @@ pub(crate) fn refusal_number(r: Refusal) -> u64
         Refusal::NoRevision => 13,
         Refusal::ShortBuffer => 14,
         Refusal::BadAsked => 15,
-    }
-}
-
-fn fault_number(f: Fault) -> u64
-    ensures { λ n. ⌜ (n ≡ faultNumber f) × (20 ≤ n) × (n ≤ 26) ⌝ }
-{
-    match f {
-        Fault::TooShort => 20,
-        Fault::BadEdition => 21,
-        Fault::BadHead => 22,
-        Fault::BadContents => 23,
-        Fault::BadSequence => 24,
-        Fault::BadRow => 25,
-        Fault::BadParent => 26,
     }
 }
 
@@ -132,7 +118,7 @@ pub(crate) fn loaded(a: Loaded) -> u64
 {
     match a {
         Loaded::Accepted => 0,
-        Loaded::Refused(f, place) => refused(fault_number(f)) + (place as u64),
+        Loaded::Refused(f, place) => refused(fault_number(f) as u64) + (place as u64),
     }
 }
 

@@ -18,6 +18,7 @@ use reads::replica::sequence;
 use report::report;
 use rules::Change;
 use rules::Changes;
+use rules::HASH;
 use rules::Next;
 use rules::RevNumber;
 use rules::Revision;
@@ -32,9 +33,7 @@ ghost use Rattle.store.specs.Documents.{documentsOf};
 ghost use Rattle.store.specs.Storage.{IsStored};
 ghost use Rattle.refile.specs.Boundary.{Lent, Calls, result, shortAnswer, flagNumber, changeBytes, winnerCall, leavesCall, pathCall, missingCall, changesCall, sequenceCall, countsCall, reportCall};
 
-// A hash, and what changes and counts write to their answer.
-const HASH: usize = 16;
-
+// What changes and counts write to their answer.
 const CHANGES: usize = 16;
 
 const COUNTS: usize = 8;
@@ -103,7 +102,7 @@ pub extern "C" fn refile_missing(replica: &[u8], id: &[u8], asked: &[u8], out: &
 #[no_mangle]
 pub extern "C" fn refile_update_sequence(replica: &[u8]) -> u64
     requires { ⌜ Lent (now replica) ⌝ }
-    ensures { λ r. ⌜ r ≡ sequenceCall (now (replica .entry)) ⌝ }
+    ensures { λ r. ⌜ Calls (sequenceCall (now (replica .entry))) r tt ⌝ }
 {
     let lent = bad_replica(replica);
     if lent != 0 {

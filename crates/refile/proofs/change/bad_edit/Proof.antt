@@ -20,7 +20,9 @@ bad-parent-requires : tie.Need-bad-parent-requires
 bad-parent-requires c κs = search needs
 
 returns-4 : tie.Need-returns-4
-returns-4 c = edit-parent _ _ _ _ _ _ _ _ (c .before .before .before .before .bad-content .ensures) (c .before .before .before .if1 .left) (c .before .before .if2 .left) (c .before .if3 .left) (c .bad-parent .ensures)
+returns-4 c =
+    let one = c .before .before .before in
+    edit-parent _ _ _ _ _ _ _ _ (one .before .bad-content .ensures) (one .if1 .left) (c .before .before .if2 .left) (c .before .if3 .left) (c .bad-parent .ensures)
 
 pub bad-edit-spec : {M : Type 1} → statement M
 bad-edit-spec =

@@ -1,8 +1,7 @@
 -- `refile_edit` meets its contract. Assumes nothing.
-use mathlib.Core.Path.{refl}
 use native.Mathlib.Omega.{arith}
 use Rattle.refile.specs.Boundary.{editCall}
-use Rattle.refile.proofs.CallLaws.{first-stops, none-first, lent-stands, refuses}
+use Rattle.refile.proofs.CallLaws.{none-first, lent-stands, keeps, lent-refuses}
 use Rattle.refile.proofs.ChangeLaws.{edit-refused, edit-hash-size, parent-hash-size, edit-done}
 use borrow.Author.Needs.{needs}
 use Rattle.refile.proofs.change.refile_edit.Statement.{statement}
@@ -19,7 +18,7 @@ same-length c = search needs
 
 returns : tie.Need-returns
 unfolding editCall
-returns c = refuses _ (first-stops _ _ _ _ _ (c .before .before .bad-replica .ensures) (c .before .if1 .taken)) (c .before .if1 .taken) (c .refused .ensures) refl
+returns c = keeps _ (c .before .if1 .taken) (c .refused .ensures) (lent-refuses _ _ _ (c .before .before .bad-replica .ensures) (c .before .if1 .taken) (c .refused .ensures))
 
 bad-edit-requires : tie.Need-bad-edit-requires
 bad-edit-requires c κs = search needs
@@ -31,7 +30,9 @@ same-length-2 : tie.Need-same-length-2
 same-length-2 c = search needs
 
 returns-2 : tie.Need-returns-2
-returns-2 c = edit-refused _ _ _ _ _ _ _ _ (none-first _ _ (c .before .before .before .before .bad-replica .ensures) (c .before .before .before .if1 .left)) _ _ (c .before .before .bad-edit .ensures) (c .before .if2 .taken) (c .refused2 .ensures)
+returns-2 c =
+    let past = c .before .before .before in
+    edit-refused _ _ _ _ _ _ _ _ (none-first _ _ (past .before .bad-replica .ensures) (past .if1 .left)) _ _ (c .before .before .bad-edit .ensures) (c .before .if2 .taken) (c .refused2 .ensures)
 
 get-hash-requires : tie.Need-get-hash-requires
 get-hash-requires c κs = let s = edit-hash-size _ _ _ _ _ _ _ (c .before .bad-edit .ensures) (c .if2 .left) in omega arith
@@ -43,7 +44,10 @@ parent-from-requires : tie.Need-parent-from-requires
 parent-from-requires c κs = parent-hash-size _ _ _ _ _ _ _ (c .before .before .before .bad-edit .ensures) (c .before .before .if2 .left)
 
 edit-requires : tie.Need-edit-requires
-edit-requires c κs = lent-stands _ (none-first _ _ (c .before .before .before .before .before .before .before .bad-replica .ensures) (c .before .before .before .before .before .before .if1 .left)) (c .before .before .before .before .before .before .before .before .before .before .before .before .before .pre)
+edit-requires c κs =
+    let past = c .before .before .before .before .before .before in
+    let start = past .before .before .before .before .before .before .before in
+    lent-stands _ (none-first _ _ (past .before .bad-replica .ensures) (past .if1 .left)) (start .pre)
 
 edited-requires : tie.Need-edited-requires
 edited-requires c κs = search needs
@@ -53,8 +57,13 @@ same-length-3 c = search needs
 
 returns-3 : tie.Need-returns-3
 returns-3 c =
-    edit-done _ _ _ _ _ _ _ _ (none-first _ _ (c .before .before .before .before .before .before .before .before .before .before .before .bad-replica .ensures) (c .before .before .before .before .before .before .before .before .before .before .if1 .left)) _ _ _ _ _ _ _ (c .before .before .before .before .before .before .before .before .before .bad-edit .ensures) (c .before .before .before .before .before .before .before .before .if2 .left)
-    (c .before .before .before .before .before .before .before .get-hash .ensures) (c .before .before .before .before .before .before .content-from .ensures) (c .before .before .before .before .before .parent-from .ensures) (c .before .before .before .edit .ensures) (c .edited .ensures)
+    let done = c .before .before .before in
+    let parent = done .before .before in
+    let given = parent .before in
+    let house = given .before .before .before in
+    let past = house .before in
+    edit-done _ _ _ _ _ _ _ _ (none-first _ _ (past .before .bad-replica .ensures) (past .if1 .left)) _ _ _ _ _ _ _ (house .bad-edit .ensures) (given .before .before .if2 .left)
+    (given .before .get-hash .ensures) (given .content-from .ensures) (parent .parent-from .ensures) (done .edit .ensures) (c .edited .ensures)
 
 pub refile-edit-spec : {M : Type 1} → statement M
 refile-edit-spec =

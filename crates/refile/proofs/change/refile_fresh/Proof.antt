@@ -1,7 +1,7 @@
 -- `refile_fresh` meets its contract. Assumes nothing.
 use mathlib.Core.Path.{refl}
 use Rattle.refile.specs.Boundary.{freshCall}
-use Rattle.refile.proofs.CallLaws.{bad-size, sized, made, refuses, accepts}
+use Rattle.refile.proofs.CallLaws.{bad-size, sized, refuses, does, keeps, accepts}
 use Rattle.refile.proofs.ChangeLaws.{fresh-stands}
 use native.Mathlib.Omega.{arith}
 use borrow.Author.Needs.{needs}
@@ -13,7 +13,7 @@ refused-requires c κs = search needs
 
 returns : tie.Need-returns
 unfolding freshCall
-returns c = refuses 100 (bad-size _ _ _ (c .before .if1 .taken)) (λ e. omega arith) (c .refused .ensures) refl
+returns c = keeps 100 (λ e. omega arith) (c .refused .ensures) (refuses 100 (bad-size _ (c .before .if1 .taken)) (λ e. omega arith) (c .refused .ensures) refl)
 
 make-fresh-requires : tie.Need-make-fresh-requires
 make-fresh-requires c κs = search needs
@@ -23,7 +23,9 @@ same-length c = search needs
 
 returns-2 : tie.Need-returns-2
 unfolding freshCall
-returns-2 c = accepts (made (sized _ _ _ (c .before .before .before .before .if1 .left)) refl (c .before .before .make-fresh .ensures .bytes)) (fresh-stands _ (c .before .before .make-fresh .ensures))
+returns-2 c =
+    let m = c .before .before in
+    accepts (does (sized _ (m .before .before .if1 .left)) refl refl (m .make-fresh .ensures .bytes)) (fresh-stands _ (m .make-fresh .ensures))
 
 pub refile-fresh-spec : {M : Type 1} → statement M
 refile-fresh-spec =

@@ -1,7 +1,7 @@
 -- `refile_load` meets its contract. Assumes nothing.
 use mathlib.Core.Path.{refl}
 use Rattle.refile.specs.Boundary.{loadCall}
-use Rattle.refile.proofs.CallLaws.{bad-size, refuses}
+use Rattle.refile.proofs.CallLaws.{bad-size, refuses, keeps}
 use Rattle.refile.proofs.ChangeLaws.{loaded-small, loads-on}
 use native.Mathlib.Omega.{arith}
 use borrow.Author.Needs.{needs}
@@ -13,7 +13,7 @@ refused-requires c κs = search needs
 
 returns : tie.Need-returns
 unfolding loadCall
-returns c = refuses 100 (bad-size _ _ _ (c .before .if1 .taken)) (λ e. omega arith) (c .refused .ensures) refl
+returns c = keeps 100 (λ e. omega arith) (c .refused .ensures) (refuses 100 (bad-size _ (c .before .if1 .taken)) (λ e. omega arith) (c .refused .ensures) refl)
 
 load-requires : tie.Need-load-requires
 load-requires c κs = search needs

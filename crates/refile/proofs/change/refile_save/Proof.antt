@@ -1,8 +1,6 @@
 -- `refile_save` meets its contract. Assumes nothing.
-use mathlib.Core.Path.{refl}
-use Rattle.refile.specs.Boundary.{saveCall}
-use Rattle.refile.proofs.CallLaws.{house-stops, house-passes, none-first, lent-stands, made}
-use Rattle.refile.proofs.ReadCallLaws.{reads-on}
+use Rattle.refile.proofs.CallLaws.{none-first, lent-stands}
+use Rattle.refile.proofs.ReadCallLaws.{save-reads, read-refuses, read-answers}
 use borrow.Author.Needs.{needs}
 use Rattle.refile.proofs.change.refile_save.Statement.{statement}
 use Rattle.refile.proofs.change.refile_save.Tie as tie
@@ -14,8 +12,7 @@ refused-requires : tie.Need-refused-requires
 refused-requires c κs = search needs
 
 returns : tie.Need-returns
-unfolding saveCall
-returns c = made (house-stops _ _ _ _ (c .before .before .bad-replica .ensures) (c .before .if1 .taken)) (c .refused .ensures) refl
+returns c = read-refuses (save-reads _ _) (c .before .before .bad-replica .ensures) (c .before .if1 .taken) (c .refused .ensures)
 
 save-requires : tie.Need-save-requires
 save-requires c κs = lent-stands _ (none-first _ _ (c .before .before .bad-replica .ensures) (c .before .if1 .left)) (c .before .before .before .before .before .pre)
@@ -27,8 +24,9 @@ same-length : tie.Need-same-length
 same-length c = search needs
 
 returns-2 : tie.Need-returns-2
-unfolding saveCall
-returns-2 c = reads-on _ _ _ _ _ _ (house-passes _ _ _ _ (c .before .before .before .before .before .before .bad-replica .ensures) (c .before .before .before .before .before .if1 .left)) (c .before .before .before .save .ensures) (c .answered .ensures)
+returns-2 c =
+    let read = c .before .before .before in
+    read-answers (save-reads _ _) (read .before .before .before .bad-replica .ensures) (read .before .before .if1 .left) (read .save .ensures) (c .answered .ensures)
 
 pub refile-save-spec : {M : Type 1} → statement M
 refile-save-spec =

@@ -23,7 +23,7 @@ returns c = search needs
 
 returns-2 : tie.Need-returns-2
 returns-2 c =
-    refused-case answeredNumber _ _ (c .before .before .before .a2 .given .0 .0) _ _ (c .before .before .before .a2 .given .1) refl (c .before .refusal-number .ensures .0) (c .refused .ensures)
+    refused-case answeredNumber _ _ (c .before .before .before .a2 .given .0 .0) _ _ (c .before .before .before .a2 .given .1) refl (c .before .refusal-number .ensures .is) (c .refused .ensures)
 
 pub answered-spec : {M : Type 1} → statement M
 answered-spec =

@@ -1,7 +1,7 @@
 -- `bad_replica` meets its contract. Assumes nothing.
 use mathlib.Core.Path.{sym, _∙_}
 use borrow.Author.Needs.{needs}
-use Rattle.rules.specs.Image.{headOf}
+use Rattle.rules.specs.Layout.{headOf}
 use Rattle.refile.proofs.CallLaws.{lent-size, lent-start, lent-fine}
 use Rattle.refile.proofs.number.bad_replica.Statement.{statement}
 use Rattle.refile.proofs.number.bad_replica.Tie as tie

@@ -26,7 +26,7 @@ returns c = search needs
 
 returns-2 : tie.Need-returns-2
 returns-2 c =
-    refused-case editedNumber _ _ (c .before .before .before .a2 .given .0 .0) _ _ (c .before .before .before .a2 .given .1) refl (c .before .refusal-number .ensures .0) (c .refused .ensures)
+    refused-case editedNumber _ _ (c .before .before .before .a2 .given .0 .0) _ _ (c .before .before .before .a2 .given .1) refl (c .before .refusal-number .ensures .is) (c .refused .ensures)
 
 pub edited-spec : {M : Type 1} → statement M
 edited-spec =

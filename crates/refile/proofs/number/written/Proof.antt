@@ -32,7 +32,7 @@ returns-2 c = search needs
 
 returns-3 : tie.Need-returns-3
 returns-3 c =
-    refused-case writtenNumber _ _ (c .before .before .before .a2 .given .0 .0) _ _ (c .before .before .before .a2 .given .1) refl (c .before .refusal-number .ensures .0) (c .refused .ensures)
+    refused-case writtenNumber _ _ (c .before .before .before .a2 .given .0 .0) _ _ (c .before .before .before .a2 .given .1) refl (c .before .refusal-number .ensures .is) (c .refused .ensures)
 
 pub written-spec : {M : Type 1} → statement M
 written-spec =

@@ -1,8 +1,7 @@
 -- `refile_counts` meets its contract. Assumes nothing.
-use mathlib.Core.Path.{refl}
 use borrow.Author.Needs.{needs}
 use Rattle.refile.specs.Boundary.{heldBytes, countsCall}
-use Rattle.refile.proofs.CallLaws.{house-stops, none-first, lent-stands, made}
+use Rattle.refile.proofs.CallLaws.{none-first, lent-stands, lent-refuses}
 use Rattle.refile.proofs.ReadCallLaws.{counts-short, counts-answer}
 use Rattle.refile.proofs.read.refile_counts.Statement.{statement}
 use Rattle.refile.proofs.read.refile_counts.Tie as tie
@@ -15,7 +14,7 @@ refused-requires c κs = search needs
 
 returns : tie.Need-returns
 unfolding countsCall
-returns c = made (house-stops _ _ _ _ (c .before .before .bad-replica .ensures) (c .before .if1 .taken)) (c .refused .ensures) refl
+returns c = lent-refuses _ _ _ (c .before .before .bad-replica .ensures) (c .before .if1 .taken) (c .refused .ensures)
 
 refused-requires-2 : tie.Need-refused-requires-2
 refused-requires-2 c κs = search needs
@@ -37,7 +36,10 @@ same-length c = search needs
 
 returns-3 : tie.Need-returns-3
 unfolding heldBytes
-returns-3 c = counts-answer _ _ (none-first _ _ (c .before .before .before .before .before .before .before .before .bad-replica .ensures) (c .before .before .before .before .before .before .before .if1 .left)) _ _ (c .before .before .before .before .before .before .if2 .left) (c .before .before .before .before .before .counts .ensures) (c .before .before .put-numbers .ensures)
+returns-3 c =
+    let read = c .before .before .before .before .before in
+    let past = read .before .before in
+    counts-answer _ _ (none-first _ _ (past .before .bad-replica .ensures) (past .if1 .left)) _ _ (read .before .if2 .left) (read .counts .ensures) (c .before .before .put-numbers .ensures)
 
 pub refile-counts-spec : {M : Type 1} → statement M
 refile-counts-spec =

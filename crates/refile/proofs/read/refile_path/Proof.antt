@@ -1,8 +1,7 @@
 -- `refile_path` meets its contract. Assumes nothing.
-use mathlib.Core.Path.{refl}
 use borrow.Author.Needs.{needs}
 use Rattle.refile.specs.Boundary.{pathCall}
-use Rattle.refile.proofs.CallLaws.{first-stops, none-first, lent-stands, made}
+use Rattle.refile.proofs.CallLaws.{none-first, lent-stands, lent-refuses}
 use Rattle.refile.proofs.ReadCallLaws.{path-bad-hash, path-answers}
 use Rattle.refile.proofs.read.refile_path.Statement.{statement}
 use Rattle.refile.proofs.read.refile_path.Tie as tie
@@ -15,7 +14,7 @@ refused-requires c κs = search needs
 
 returns : tie.Need-returns
 unfolding pathCall
-returns c = made (first-stops _ _ _ _ _ (c .before .before .bad-replica .ensures) (c .before .if1 .taken)) (c .refused .ensures) refl
+returns c = lent-refuses _ _ _ (c .before .before .bad-replica .ensures) (c .before .if1 .taken) (c .refused .ensures)
 
 refused-requires-2 : tie.Need-refused-requires-2
 refused-requires-2 c κs = search needs
@@ -27,7 +26,9 @@ get-hash-requires : tie.Need-get-hash-requires
 get-hash-requires c κs = search needs
 
 path-requires : tie.Need-path-requires
-path-requires c κs = lent-stands _ (none-first _ _ (c .before .before .before .before .bad-replica .ensures) (c .before .before .before .if1 .left)) (c .before .before .before .before .before .before .before .before .before .pre)
+path-requires c κs =
+    let past = c .before .before .before in
+    lent-stands _ (none-first _ _ (past .before .bad-replica .ensures) (past .if1 .left)) (past .before .before .before .before .before .before .pre)
 
 answered-requires : tie.Need-answered-requires
 answered-requires c κs = search needs
@@ -36,7 +37,12 @@ same-length : tie.Need-same-length
 same-length c = search needs
 
 returns-3 : tie.Need-returns-3
-returns-3 c = path-answers _ _ _ _ _ (none-first _ _ (c .before .before .before .before .before .before .before .before .bad-replica .ensures) (c .before .before .before .before .before .before .before .if1 .left)) _ _ _ _ (c .before .before .before .before .before .before .if2 .left) (c .before .before .before .before .before .get-hash .ensures) (c .before .before .before .path .ensures) (c .answered .ensures)
+returns-3 c =
+    let read = c .before .before .before in
+    let hash = read .before .before in
+    let past = hash .before .before in
+    path-answers _ _ _ _ _ (none-first _ _ (past .before .bad-replica .ensures) (past .if1 .left)) _ _ _ _
+    (hash .before .if2 .left) (hash .get-hash .ensures) (read .path .ensures) (c .answered .ensures)
 
 pub refile-path-spec : {M : Type 1} → statement M
 refile-path-spec =
