@@ -82,16 +82,21 @@ extern "C" {
 #define REFILE_PULL_BYTES 12u    /* what refile_pull writes to answer */
 #define REFILE_COUNTS_BYTES 8u   /* what refile_counts writes to answer */
 
+/* The longest lines of a report: the words, and at most ten digits for each number. */
+#define REFILE_HEAD_LINE_MOST (sizeof "seq  documents  revisions \n" - 1u + 3u * 10u)
+#define REFILE_DOCUMENT_LINE_MOST \
+    (sizeof " seq  winner - leaves  conflicts \n" - 1u + 2u * REFILE_ID_BYTES + 2u * REFILE_HASH_BYTES + 4u * 10u)
+
 /* Sizes in bytes that follow from the room. A buffer of ..._MOST bytes is never refused by 14. */
 #define REFILE_IMAGE_MOST (16u + 44u * REFILE_DOCUMENTS + 48u * REFILE_REVISIONS) /* an image */
 #define REFILE_REPLICA_BYTES REFILE_IMAGE_MOST                      /* a replica's buffer, exactly */
 #define REFILE_LEAVES_MOST (REFILE_LEAF_BYTES * REFILE_REVISIONS)   /* for refile_leaves */
 #define REFILE_PATH_MOST (REFILE_HASH_BYTES * REFILE_REVISIONS)     /* for refile_path */
-#define REFILE_REPORT_MOST (57u + 170u * REFILE_DOCUMENTS)          /* for refile_report */
+#define REFILE_REPORT_MOST (REFILE_HEAD_LINE_MOST + REFILE_DOCUMENT_LINE_MOST * REFILE_DOCUMENTS) /* for refile_report */
 
 /* The stack that suffices for every call: what a run of each call at the full room was seen to take,
  * and at least half as much again. */
-#define REFILE_STACK_BYTES (256u * REFILE_PATH_HASHES)
+#define REFILE_STACK_BYTES (256u * REFILE_REVISIONS)
 
 /* The kinds of content, as in an image row. */
 #define REFILE_LIVE 1u

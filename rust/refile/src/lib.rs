@@ -108,4 +108,4 @@ const DOCUMENT_LINE_MOST: usize =
     " seq  winner - leaves  conflicts \n".len() + 2 * (ID_BYTES + HASH_BYTES) + 4 * DIGITS;
 
 /// Bytes of stack that suffice for every call of the archive.
-pub const STACK_BYTES: usize = 256 * PATH_HASHES;
+pub const STACK_BYTES: usize = 256 * REVISIONS;

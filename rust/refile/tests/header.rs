@@ -7,6 +7,9 @@ use std::path::Path;
 use std::process::Command;
 
 use refile::Refusal;
+use refile_model::layout::IMAGE_MOST;
+use refile_model::model::REPORT_MOST;
+use refile_model::sizes::{DOCUMENTS, HASH_BYTES, LEAF_BYTES, PATH_HASHES, REVISIONS};
 
 const HEADER: &str = include_str!("../../../include/refile.h");
 const DECLARATIONS: &str = include_str!("../src/sys.rs");
@@ -147,18 +150,16 @@ const SIZES: [(&str, usize); 14] = [
     ("VERSION", refile::VERSION as usize),
 ];
 
-/// The room of the rules, 32 documents, 512 revisions and 512 hashes, and what it gives, written out.
-/// Whatever else is about the room takes it as it is.
+/// The room and what it gives are the model's, whose numbers were not taken from the header.
 #[test]
-fn sizes_are_the_known_ones() {
+fn sizes_are_the_models() {
     let room = (refile::DOCUMENTS, refile::REVISIONS, refile::PATH_HASHES);
-    assert_eq!(room, (32, 512, 512));
-    assert_eq!(
-        (refile::REPLICA_BYTES, refile::IMAGE_MOST),
-        (26_000, 26_000)
-    );
-    assert_eq!((refile::LEAVES_MOST, refile::PATH_MOST), (14_848, 8_192));
-    assert_eq!(refile::REPORT_MOST, 5_497);
+    assert_eq!(room, (DOCUMENTS, REVISIONS, PATH_HASHES));
+    let image = (refile::REPLICA_BYTES, refile::IMAGE_MOST);
+    assert_eq!(image, (IMAGE_MOST, IMAGE_MOST));
+    let answers = (refile::LEAVES_MOST, refile::PATH_MOST);
+    assert_eq!(answers, (REVISIONS * LEAF_BYTES, PATH_HASHES * HASH_BYTES));
+    assert_eq!(refile::REPORT_MOST, REPORT_MOST);
     assert_eq!(refile::VERSION, 2_000);
 }
 
@@ -201,6 +202,8 @@ fn refusals_are_those_of_the_header() {
         ("CHANGES_BYTES", 16),
         ("PULL_BYTES", 12),
         ("COUNTS_BYTES", 8),
+        ("HEAD_LINE_MOST", 57),
+        ("DOCUMENT_LINE_MOST", 170),
         ("LIVE", 1),
         ("DELETED", 2),
         ("VERSION_MAJOR", 0),

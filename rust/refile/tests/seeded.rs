@@ -3,7 +3,9 @@
 //! prints the model's lines; on a copy with one of the must-fail edits it must not.
 
 use refile_model::harness::{apply, buffer};
-use refile_model::model::Model;
+use refile_model::images::save;
+use refile_model::model::{hex, Model};
+use refile_model::sizes::{DOCUMENTS, HASH_BYTES, REVISIONS};
 use refile_model::steps::{Scenario, Step};
 use refile_model::{Content, Replica};
 use std::fs;
@@ -11,14 +13,15 @@ use std::path::{Path, PathBuf};
 use std::process::Command;
 
 /// The crates that the program runs.
-const CRATES: [&str; 14] = [
-    "rules", "octets", "tree", "store", "union", "text", "images", "faults", "codec", "report",
-    "reads", "writes", "pulls", "edits",
+const CRATES: [&str; 15] = [
+    "rules", "octets", "layout", "tree", "store", "union", "text", "images", "faults", "codec",
+    "report", "reads", "writes", "pulls", "edits",
 ];
 
-/// Must-fail edits that the scenario brings out: some of each crate.
-const EDITS: [(&str, &str); 14] = [
+/// Must-fail edits that a scenario brings out: some of each crate.
+const EDITS: [(&str, &str); 15] = [
     ("octets", "order-prefix-last"),
+    ("layout", "ids-without-length"),
     ("tree", "deleted-wins"),
     ("tree", "zero-parent-unknown"),
     ("reads", "changes-in-id-order"),
@@ -28,7 +31,7 @@ const EDITS: [(&str, &str); 14] = [
     ("writes", "raised-unchanged"),
     ("pulls", "known-leaf-skipped"),
     ("pulls", "stops-at-refusal"),
-    ("faults", "ids-without-length"),
+    ("faults", "parent-unknown"),
     ("faults", "place-in-document"),
     ("codec", "places-left-zero"),
     ("report", "leaves-for-conflicts"),
@@ -203,6 +206,24 @@ fn lay_out(folder: &Path, scenario: &Scenario) {
     fs::write(replay.join("stdout"), expected(scenario)).unwrap();
 }
 
+/// The lines of a must-fail edit: those of the file of its name, or those that a line `# name:` begins in a
+/// file that holds several.
+fn edit_named(name: &str, label: &str) -> String {
+    let folder = top().join(format!("crates/{name}/must-fail"));
+    if let Ok(text) = fs::read_to_string(folder.join(format!("{label}.edit"))) {
+        return text;
+    }
+    let files = fs::read_dir(folder).unwrap();
+    let texts = files.map(|file| fs::read_to_string(file.unwrap().path()).unwrap());
+    let heading = format!("# name: {label}\n");
+    let found: Vec<String> = texts
+        .filter_map(|text| Some(text.split_once(&heading)?.1.to_string()))
+        .map(|rest| rest.split("# name: ").next().unwrap().to_string())
+        .collect();
+    assert_eq!(found.len(), 1, "{name} has one edit {label}");
+    found.into_iter().next().unwrap()
+}
+
 /// Applies a must-fail edit: a file, then lines `old:` and `new:` in turn.
 fn apply_edit(crate_folder: &Path, edit: &str) {
     let mut file = None;
@@ -236,18 +257,43 @@ fn runs(folder: &Path) -> (bool, String) {
     )
 }
 
-fn scenario() -> Scenario {
-    let file = top().join("rust/model/scenarios/edits.txt");
+fn stored(name: &str) -> Scenario {
+    let file = top().join(format!("rust/model/scenarios/{name}.txt"));
     fs::read_to_string(file).unwrap().parse().unwrap()
+}
+
+/// The borders of the room: the last document that there is room for, and one more; a full replica.
+fn borders() -> Scenario {
+    let mut nearly = Model::fresh();
+    for i in 1..DOCUMENTS as u8 {
+        let hash = [i; HASH_BYTES];
+        let written = nearly.write(&[0x80, i], 1, &hash, Content::Live(1));
+        assert_eq!(written, Ok(true));
+    }
+    let full = fs::read(top().join("examples/full.image")).unwrap();
+    let id_len = full[16] as usize;
+    let held = hex(&full[17..17 + id_len]);
+    let hash = hex(&[0x4d; HASH_BYTES]);
+    let steps = [
+        format!("load 0 {}", hex(&save(&nearly))),
+        format!("write 0 8000 1 {hash} live 9"),
+        format!("write 0 9999 1 {hash} live 9"),
+        format!("edit 0 9999 {hash} live 1 on none"),
+        format!("load 1 {}", hex(&full)),
+        format!("write 1 {held} {REVISIONS} {hash} live 9"),
+        format!("write 1 9999 1 {hash} live 9"),
+        "pull 1 from 0 after 0".to_string(),
+        "counts 0".to_string(),
+        "counts 1".to_string(),
+    ];
+    steps.join("\n").parse().unwrap()
 }
 
 /// What is said of an edit that goes unnoticed, or that stops the program in another way.
 fn unnoticed(scenario: &Scenario, name: &str, label: &str) -> Option<String> {
     let room = Room::new(&format!("{name}-{label}"));
     lay_out(&room.0, scenario);
-    let file = format!("crates/{name}/must-fail/{label}.edit");
-    let edit = fs::read_to_string(top().join(file)).unwrap();
-    apply_edit(&room.0.join("crates").join(name), &edit);
+    apply_edit(&room.0.join("crates").join(name), &edit_named(name, label));
     let (same, said) = runs(&room.0);
     if !same && said.contains("did not write what is expected") {
         return None;
@@ -257,20 +303,35 @@ fn unnoticed(scenario: &Scenario, name: &str, label: &str) -> Option<String> {
 
 #[test]
 fn the_program_prints_the_models_lines() {
-    let room = Room::new("as-it-is");
-    lay_out(&room.0, &scenario());
-    let (same, said) = runs(&room.0);
-    assert!(same, "{said}");
+    for (name, scenario) in [
+        ("edits", stored("edits")),
+        ("damaged", stored("damaged")),
+        ("borders", borders()),
+    ] {
+        let room = Room::new(name);
+        lay_out(&room.0, &scenario);
+        let (same, said) = runs(&room.0);
+        assert!(same, "{said}");
+    }
+}
+
+#[test]
+fn the_borders_are_met() {
+    let said = expected(&borders());
+    for line in ["refused 6 at 0", "refused 7 at 0"] {
+        assert!(said.lines().any(|l| l == line), "{said}");
+    }
 }
 
 #[test]
 fn wrong_edits_are_noticed() {
-    let scenario = scenario();
+    let (edits, damaged) = (stored("edits"), stored("damaged"));
     let (left, right) = EDITS.split_at(EDITS.len() / 2);
-    let tried = |edits: &[(&str, &str)]| -> Vec<String> {
-        let edits = edits.iter();
-        edits
-            .filter_map(|(name, label)| unnoticed(&scenario, name, label))
+    let tried = |wrong: &[(&str, &str)]| -> Vec<String> {
+        let scenario = |name| if name == "faults" { &damaged } else { &edits };
+        let wrong = wrong.iter();
+        wrong
+            .filter_map(|(name, label)| unnoticed(scenario(*name), name, label))
             .collect()
     };
     let missed = std::thread::scope(|scope| {
