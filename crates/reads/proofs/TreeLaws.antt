@@ -146,6 +146,9 @@ module _ (t : Tree) (h : IsTree t) where
   ancestry-sized (suc n) v k = (h .revisions v k .size, parent-sized n v (λ u l. ancestry-sized n u l))
 
   -- "16 bytes each"
-  pub path-size : (v : Revision) → Known t v → length (join (pathOf t v)) ≡ length (pathOf t v) * hashSize
+  pub path-sized : (v : Revision) → Known t v → Sized hashSize (pathOf t v)
   unfolding pathOf
-  path-size v k = length-join hashSize (ancestry (v .number .0) t v) (ancestry-sized (v .number .0) v k)
+  path-sized v k = ancestry-sized (v .number .0) v k
+
+  pub path-size : (v : Revision) → Known t v → length (join (pathOf t v)) ≡ length (pathOf t v) * hashSize
+  path-size v k = length-join hashSize (pathOf t v) (path-sized v k)

@@ -16,7 +16,7 @@ use Rattle.rules.proofs.ReadingsReport.{listing}
 use Rattle.octets.specs.Splice.{splice}
 use Rattle.octets.proofs.SpliceLaws.{length-splice}
 use Rattle.reads.proofs.AnswerLaws.{reads-answers}
-use Rattle.report.specs.Lines.{PutWithin}
+use Rattle.text.specs.Text.{PutWithin}
 
 front-taken : (out bytes : List ℕ) (n : ℕ) → length bytes ≡ n → take n (splice out 0 bytes) ≡ bytes
 unfolding splice

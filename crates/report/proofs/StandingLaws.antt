@@ -12,7 +12,7 @@ use Rattle.rules.specs.Bytes.{join}
 use Rattle.rules.specs.Map.{Map}
 use Rattle.rules.specs.Read.{leaves, winner, conflicts}
 use Rattle.rules.specs.Replica.{Id, Tree, Document, Replica, IsTree}
-use Rattle.rules.specs.Report.{decimal, hex, text, lineOf, revText, lineText, headText, replicaText, ownWord, winnerWord, dash}
+use Rattle.rules.specs.Report.{decimal, hex, text, lineOf, revText, lineText, headText, replicaText, ownWord, winnerWord}
 use Rattle.rules.specs.Room.{idMost}
 use Rattle.rules.proofs.ByteLaws.{join-append}
 use Rattle.images.proofs.Lists.{map-append}
@@ -40,10 +40,6 @@ pub id-most : (s : List ℕ) (d : ℕ) {i : Id} → IsStored s → d < length (d
 id-most s d h k e = rw e (each-document s d h k .id .most)
 
 -- ---- a line as it is put together
-
-pub rev-joined : (v : Revision) → (decimal (v .number .0) ++ text dash) ++ hex (v .hash) ≡ revText v
-unfolding revText
-rev-joined v = append-assoc (decimal (v .number .0)) (text dash) (hex (v .hash))
 
 pub line-joined : (x : Id × Document) {i : Id} {q : Seq} {t : Tree} → IsTree (x .1 .tree) → i ≡ x .0 → q ≡ x .1 .seq → t ≡ x .1 .tree
     → (hex i ++ (text ownWord ++ decimal (q .0))) ++ standingText t ≡ lineText (lineOf x)

@@ -1,6 +1,6 @@
 -- Parts of a report's lines, how long each is at most, and what a caller shows to have one written.
 use mathlib.Core.List.{List, [], _++_, map}
-use Prim.Native.Nat.{ℕ, suc, _+_, _-_, _*_, _≤_, _<_}
+use Prim.Native.Nat.{ℕ, _+_, _-_, _*_, _≤_, _<_}
 use Prim.Native.String.{String}
 use lib.ListN.{length}
 use Rattle.rules.specs.declared.Revision.{Revision}
@@ -9,33 +9,21 @@ use Rattle.rules.specs.Choice.{maybe}
 use Rattle.rules.specs.Map.{Map}
 use Rattle.rules.specs.Read.{leaves, winner}
 use Rattle.rules.specs.Replica.{Id, revision, Tree, Document}
-use Rattle.rules.specs.Report.{decimal, text, documentsWord, revisionsWord, seqWord, ownWord, winnerWord, dash, leavesWord, conflictsWord, refusedWord, atWord, newline, lineOf, revText, lineText}
-use Rattle.rules.specs.Room.{documentsMost, revisionsMost, idMost, hashSize}
-use Rattle.text.specs.Text.{decimalMost, Put}
+use Rattle.rules.specs.Report.{decimal, text, documentsWord, revisionsWord, seqWord, ownWord, winnerWord, leavesWord, conflictsWord, refusedWord, atWord, newline, lineOf, revText, lineText}
+use Rattle.rules.specs.Room.{documentsMost, revisionsMost, idMost}
+use Rattle.text.specs.Text.{decimalMost, size, hexSize, revMost}
 use Rattle.tree.specs.declared.table.Body.{Body}
 use Rattle.store.specs.Storage.{Laid, IsStored}
 use Rattle.store.specs.Documents.{documentsOf}
 use Rattle.reads.specs.Reads.{CanRead}
 
--- the bytes of a word
-abbrev pub size : String → ℕ
-size String.[] = 0
-size (String._∷_ c s) = suc (size s)
-
 -- the most bytes of a word with a number after it
 abbrev pub fieldMost : String → ℕ
 fieldMost s = size s + decimalMost
 
--- "hex": two digits a byte
-abbrev pub hexSize : ℕ → ℕ
-hexSize n = 2 * n
-
 -- the most bytes of each line and of its parts
 abbrev pub headMost : ℕ
 headMost = fieldMost seqWord + fieldMost documentsWord + fieldMost revisionsWord + size newline
-
-abbrev pub revMost : ℕ
-revMost = decimalMost + size dash + hexSize hashSize
 
 abbrev pub countsMost : ℕ
 countsMost = fieldMost leavesWord + fieldMost conflictsWord + size newline
@@ -53,11 +41,6 @@ refusedMost = fieldMost refusedWord + fieldMost atWord + size newline
 -- and of a whole report
 abbrev pub reportMost : ℕ
 reportMost = headMost + lineMost * documentsMost
-
--- the text now stands at `at`, and it has no more bytes than `bound`
-pub record PutWithin (bound : ℕ) (text before : List ℕ) (at next : ℕ) (after : List ℕ) : Type 0 where
-  pub put : Put text before at next after
-  pub most : next ≤ at + bound
 
 pub record CanPutHead (b s : List ℕ) : Type 0 where
   pub laid : Laid b

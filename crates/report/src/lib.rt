@@ -21,7 +21,8 @@ ghost use lib.ListN.{length, take};
 ghost use Rattle.rules.specs.Outcome.{Does};
 ghost use Rattle.rules.specs.Read.{reads};
 ghost use Rattle.rules.specs.Report.{report, readReport};
-ghost use Rattle.report.specs.Lines.{reportMost, PutWithin};
+ghost use Rattle.text.specs.Text.{PutWithin};
+ghost use Rattle.report.specs.Lines.{reportMost};
 ghost use Rattle.report.specs.Loaded.{loadedText, CanPutLoaded};
 
 // The longest report: a head line, and a line for each document.

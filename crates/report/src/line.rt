@@ -2,7 +2,6 @@
 // answered.
 use crate::words::AT;
 use crate::words::CONFLICTS;
-use crate::words::DASH;
 use crate::words::END;
 use crate::words::HAS_DOCUMENTS;
 use crate::words::HAS_REVISIONS;
@@ -13,7 +12,6 @@ use crate::words::SEQ;
 use crate::words::WINNER;
 use faults::fault_number;
 use rules::Fault;
-use rules::Revision;
 use store::read::body_of;
 use store::read::documents_held;
 use store::read::id_of;
@@ -22,6 +20,7 @@ use store::read::revisions_held;
 use store::read::update_sequence;
 use text::put_decimal;
 use text::put_hex;
+use text::put_rev;
 use text::put_word;
 use tree::leaf::leaf_count;
 use tree::leaf::winner_of;
@@ -29,13 +28,13 @@ use tree::table::Body;
 ghost use mathlib.Core.List.{_++_};
 ghost use Prim.Native.Nat.{_+_, _*_, _≤_, _<_};
 ghost use lib.ListN.{length};
-ghost use Rattle.rules.specs.Report.{decimal, lineOf, revText, lineText, headText, replicaText, refusedText};
-ghost use Rattle.text.specs.Text.{decimalMost};
+ghost use Rattle.rules.specs.Report.{decimal, lineOf, lineText, headText, replicaText, refusedText};
+ghost use Rattle.text.specs.Text.{decimalMost, PutWithin};
 ghost use Rattle.tree.specs.Table.{treeIn};
 ghost use Rattle.store.specs.Storage.{replicaOf};
 ghost use Rattle.store.specs.Documents.{documentsOf, documentAt};
-ghost use Rattle.report.specs.Lines.{headMost, revMost, countsMost, standingMost, lineMost, reportMost, refusedMost};
-ghost use Rattle.report.specs.Lines.{countsText, standingText, linesText, PutWithin};
+ghost use Rattle.report.specs.Lines.{headMost, countsMost, standingMost, lineMost, reportMost, refusedMost};
+ghost use Rattle.report.specs.Lines.{countsText, standingText, linesText};
 ghost use Rattle.report.specs.Lines.{CanPutHead, CanPutCounts, CanPutStanding, CanPutLine, CanPutLines, CanPutReplica};
 
 // Writes a word and a number.
@@ -44,7 +43,7 @@ fn put_field(s: &mut [u8], at: usize, word: &[u8], v: u32) -> usize
     ensures { λ r. ⌜ PutWithin (length (now (word .entry)) + decimalMost) (now (word .entry) ++ decimal v) (now (s .entry)) at r (now (s .exit)) ⌝ }
 {
     let next = put_word(s, at, word);
-    put_decimal(s, next, v)
+    put_decimal(s, next, v as u64)
 }
 
 // The head line: the update sequence, and how many documents and revisions there are.
@@ -59,18 +58,6 @@ pub(crate) fn put_head(b: &[u8], s: &mut [u8]) -> usize
     let r = put_field(s, d, &HAS_DOCUMENTS, documents as u32);
     let head_end = put_field(s, r, &HAS_REVISIONS, revisions as u32);
     put_word(s, head_end, &END)
-}
-
-// A revision as number and hash.
-fn put_rev(s: &mut [u8], at: usize, rev: Revision) -> usize
-    requires { ⌜ at + revMost ≤ length (now s) ⌝ }
-    ensures { λ r. ⌜ PutWithin revMost (revText rev) (now (s .entry)) at r (now (s .exit)) ⌝ }
-{
-    let number = rev.number;
-    let hash = rev.hash;
-    let dash = put_decimal(s, at, number.0);
-    let h = put_word(s, dash, &DASH);
-    put_hex(s, h, &hash)
 }
 
 // The end of a document's line: its leaves, all but one of which are conflicts.

@@ -1,7 +1,7 @@
 // The words of a report, and how long its lines are at most.
-use rules::HASH;
 use rules::ID_MOST;
 use text::DECIMAL;
+use text::REV_MOST;
 
 pub(crate) const SEQ: [u8; 4] = *b"seq ";
 
@@ -12,8 +12,6 @@ pub(crate) const HAS_REVISIONS: [u8; 11] = *b" revisions ";
 pub(crate) const OWN_SEQ: [u8; 5] = *b" seq ";
 
 pub(crate) const WINNER: [u8; 8] = *b" winner ";
-
-pub(crate) const DASH: [u8; 1] = *b"-";
 
 pub(crate) const LEAVES: [u8; 8] = *b" leaves ";
 
@@ -33,11 +31,9 @@ pub(crate) const HEAD_MOST: usize = SEQ.len()
     + DECIMAL
     + END.len();
 
-// Hex has two digits a byte.
-const REV_MOST: usize = DECIMAL + DASH.len() + 2 * HASH;
-
 const COUNTS_MOST: usize = LEAVES.len() + DECIMAL + CONFLICTS.len() + DECIMAL + END.len();
 
+// Hex has two digits a byte.
 pub(crate) const LINE_MOST: usize = 2 * ID_MOST
     + OWN_SEQ.len()
     + DECIMAL

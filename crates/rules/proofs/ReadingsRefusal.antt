@@ -8,6 +8,7 @@ use Rattle.rules.specs.declared.Content.the-variants.{Live, Deleted}
 use Rattle.rules.specs.declared.Fault.the-variants.{TooShort, BadEdition, BadHead, BadContents, BadSequence, BadRow, BadParent}
 use Rattle.rules.specs.declared.Refusal.the-variants.{BadId, BadPath, LowNumber, OtherParent, OtherContent, DocumentsFull, RevisionsFull, SequenceSpent}
 use Rattle.rules.specs.declared.Refusal.the-variants.{NotAParent, AlreadyKnown, LastNumber, NoDocument, NoRevision, ShortBuffer, BadAsked}
+use Rattle.rules.specs.declared.Refusal.the-variants.{NotJson, BadMember, OtherRevisions, UnwritableId}
 use Rattle.rules.specs.Bytes.{pieces, join}
 use Rattle.rules.specs.Choice.{any, howMany, firstThat}
 use Rattle.rules.specs.Examples.{lot, on}
@@ -24,8 +25,9 @@ use Rattle.rules.proofs.Readings.{after, tries, row, rev, shelf, trunk,
 -- "Refusal numbers": 1 to 15, and of an image 20 to 26
 pub the-numbers : map refusalNumber
     (BadId ∷ BadPath ∷ LowNumber ∷ OtherParent ∷ OtherContent ∷ DocumentsFull ∷ RevisionsFull ∷ SequenceSpent
-    ∷ NotAParent ∷ AlreadyKnown ∷ LastNumber ∷ NoDocument ∷ NoRevision ∷ ShortBuffer ∷ BadAsked ∷ [])
-    ≡ 1 ∷ 2 ∷ 3 ∷ 4 ∷ 5 ∷ 6 ∷ 7 ∷ 8 ∷ 9 ∷ 10 ∷ 11 ∷ 12 ∷ 13 ∷ 14 ∷ 15 ∷ []
+    ∷ NotAParent ∷ AlreadyKnown ∷ LastNumber ∷ NoDocument ∷ NoRevision ∷ ShortBuffer ∷ BadAsked
+    ∷ NotJson ∷ BadMember ∷ OtherRevisions ∷ UnwritableId ∷ [])
+    ≡ 1 ∷ 2 ∷ 3 ∷ 4 ∷ 5 ∷ 6 ∷ 7 ∷ 8 ∷ 9 ∷ 10 ∷ 11 ∷ 12 ∷ 13 ∷ 14 ∷ 15 ∷ 40 ∷ 41 ∷ 42 ∷ 43 ∷ []
 the-numbers = refl
 
 pub the-fault-numbers : map faultNumber (TooShort ∷ BadEdition ∷ BadHead ∷ BadContents ∷ BadSequence ∷ BadRow ∷ BadParent ∷ [])

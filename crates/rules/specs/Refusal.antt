@@ -3,6 +3,7 @@ use Prim.Native.Nat.{ℕ}
 use Rattle.rules.specs.declared.Refusal.{Refusal}
 use Rattle.rules.specs.declared.Refusal.the-variants.{BadId, BadPath, LowNumber, OtherParent, OtherContent, DocumentsFull, RevisionsFull, SequenceSpent}
 use Rattle.rules.specs.declared.Refusal.the-variants.{NotAParent, AlreadyKnown, LastNumber, NoDocument, NoRevision, ShortBuffer, BadAsked}
+use Rattle.rules.specs.declared.Refusal.the-variants.{NotJson, BadMember, OtherRevisions, UnwritableId}
 use Rattle.rules.specs.declared.Fault.{Fault}
 use Rattle.rules.specs.declared.Fault.the-variants.{TooShort, BadEdition, BadHead, BadContents, BadSequence, BadRow, BadParent}
 
@@ -22,6 +23,10 @@ refusalNumber NoDocument = 12
 refusalNumber NoRevision = 13
 refusalNumber ShortBuffer = 14
 refusalNumber BadAsked = 15
+refusalNumber NotJson = 40
+refusalNumber BadMember = 41
+refusalNumber OtherRevisions = 42
+refusalNumber UnwritableId = 43
 
 abbrev pub faultNumber : Fault → ℕ
 faultNumber TooShort = 20

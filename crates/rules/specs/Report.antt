@@ -31,9 +31,9 @@ trim [] = []
 trim (c ∷ []) = c ∷ []
 trim (c ∷ e ∷ cs) = pick (eqb c 48) (trim (e ∷ cs)) (c ∷ e ∷ cs)
 
--- "Numbers are decimal": none printed has over ten digits
+-- "Numbers are decimal": none has over twenty digits
 unfoldable pub decimal : ℕ → List ℕ
-decimal v = trim (digits 10 v)
+decimal v = trim (digits 20 v)
 
 -- "hex is lower case"
 unfoldable pub hexDigit : ℕ → ℕ

@@ -60,6 +60,10 @@ pub enum Refusal {
     NoRevision,
     ShortBuffer,
     BadAsked,
+    NotJson,
+    BadMember,
+    OtherRevisions,
+    UnwritableId,
 }
 
 // What is wrong with an image. `faultNumber` in specs/Refusal.antt gives each its number.

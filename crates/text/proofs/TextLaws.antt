@@ -1,29 +1,40 @@
--- Laws of decimal numbers and hex. Assumes nothing.
-use mathlib.Core.Path.{_≡_, refl, sym, ap, _∙_}
+-- Laws of decimal numbers and hex, and of one text written after another. Assumes nothing.
+use mathlib.Core.Path.{_≡_, refl, sym, ap, _∙_, subst}
 use mathlib.Core.Bool.{Bool, true, false}
 use mathlib.Core.List.{List, [], _∷_, _++_, append-assoc}
 use mathlib.Core.Logic.{_⊎_, inl, inr}
 use Prim.Native.Nat.{ℕ, zero, suc, _+_, _*_, _/_, _%_, _≤_, _<_}
 use native.Mathlib.Omega.{arith}
 use native.Mathlib.Numerals.{add-one}
-use lib.Dec.{eqb}
+use lib.Dec.{eqb, ltb}
 use lib.ListN.{length, take, getD, set, length-append, length-take}
 use lib.Seq.{take-suc}
-use borrow.Author.Tests.{ne-eqb, eqb-true}
+use borrow.Author.Tests.{ne-eqb, eqb-true, ltb-true, ltb-false}
+use Rattle.rules.specs.declared.Revision.{Revision}
 use Rattle.rules.specs.Choice.{pick}
-use Rattle.rules.specs.Report.{digits, trim, decimal, hexDigit, hex}
+use Rattle.rules.specs.Report.{digits, trim, decimal, hexDigit, hex, text, dash, revText}
 use Rattle.octets.specs.Splice.{splice}
-use Rattle.octets.proofs.SpliceLaws.{splice-behind, splice-none, length-splice}
+use Rattle.octets.proofs.SpliceLaws.{splice-behind, splice-none, length-splice, chain}
 use Rattle.text.specs.Text.{decimalMost, Put}
 
--- what a u32 holds
+-- what a u64 holds
 abbrev Fits : ℕ → Type 0
-Fits v = v < 4294967296
+Fits v = v < 18446744073709551616
+
+-- one more than the greatest number of n digits
+tens : ℕ → ℕ
+tens zero = 1
+tens (suc n) = 10 * tens n
 
 -- a number of at most n decimal digits
 Below : ℕ → ℕ → Type 0
 Below zero v = v ≡ 0
 Below (suc n) v = Below n (v / 10)
+
+below-tens : (n v : ℕ) → v < tens n → Below n v
+unfolding Below tens
+below-tens zero v h = omega arith
+below-tens (suc n) v h = below-tens n (v / 10) (omega arith)
 
 -- one digit more is a zero in front
 digits-pad : (n v : ℕ) → Below n v → digits (suc n) v ≡ 48 ∷ digits n v
@@ -84,9 +95,9 @@ length-trim (c ∷ e ∷ cs) = go (eqb c 48) (length-trim (e ∷ cs))
     go true h = omega arith
     go false h = omega arith
 
-pub decimal-most : (v : ℕ) → length (decimal v) ≤ decimalMost
+pub decimal-longest : (v : ℕ) → length (decimal v) ≤ 20
 unfolding decimal
-decimal-most v = omega (arith, length-trim (digits decimalMost v), length-digits decimalMost v)
+decimal-longest v = omega (arith, length-trim (digits 20 v), length-digits 20 v)
 
 -- a number below ten is its digit
 pub decimal-digit : (v : ℕ) → v < 10 → decimal v ≡ (48 + v) ∷ []
@@ -97,11 +108,11 @@ decimal-digit v h = let e : v / 10 ≡ 0 = omega arith in let m : v % 10 ≡ v =
 pub decimal-more : (v : ℕ) → 10 ≤ v → Fits v → decimal v ≡ decimal (v / 10) ++ ((48 + v % 10) ∷ [])
 unfolding decimal digits trim
 decimal-more v h k =
-    trim-more (digits 9 (v / 10)) (48 + v % 10) (digits-nonzero 9 (v / 10) (omega arith) below)
-    ∙ ap (λ (l : List ℕ). l ++ ((48 + v % 10) ∷ [])) (ap trim (sym (digits-pad 9 (v / 10) below)))
+    trim-more (digits 19 (v / 10)) (48 + v % 10) (digits-nonzero 19 (v / 10) (omega arith) below)
+    ∙ ap (λ (l : List ℕ). l ++ ((48 + v % 10) ∷ [])) (ap trim (sym (digits-pad 19 (v / 10) below)))
   where
-    below : Below 9 (v / 10)
-    below = unfold Below in omega arith
+    below : Below 19 (v / 10)
+    below = below-tens 19 (v / 10) (unfold tens in omega arith)
 
 hex-more : (bs : List ℕ) (b : ℕ) → hex (bs ++ (b ∷ [])) ≡ hex bs ++ (hexDigit (b / 16) ∷ hexDigit (b % 16) ∷ [])
 unfolding hex
@@ -141,6 +152,20 @@ length-digit v h = rw (decimal-digit v h) refl
 pub length-more : (v : ℕ) → 10 ≤ v → Fits v → length (decimal v) ≡ length (decimal (v / 10)) + 1
 length-more v h k = rw (decimal-more v h k) (simp length-append (omega arith))
 
+digits-most : (n v : ℕ) → v < 10 * tens n → Fits v → length (decimal v) ≤ suc n
+unfolding tens
+digits-most zero v h k = omega (arith, length-digit v (omega arith))
+digits-most (suc n) v h k = go (ltb v 10) refl (digits-most n (v / 10) (omega arith) (omega arith))
+  where
+    go : (b : Bool) → ltb v 10 ≡ b → length (decimal (v / 10)) ≤ suc n → length (decimal v) ≤ suc (suc n)
+    go true e ih = omega (arith, length-digit v (ltb-true v 10 e))
+    go false e ih = omega (arith, length-more v (ltb-false v 10 e) k)
+
+-- a number of 32 bits has at most ten digits
+pub decimal-most : (v : ℕ) → v < 4294967296 → length (decimal v) ≤ decimalMost
+unfolding tens
+decimal-most v h = digits-most 9 v (omega arith) (omega arith)
+
 pub put-digit : {s : List ℕ} {at v : ℕ} → v < 10 → at < length s → Put (decimal v) s at (at + 1) (set s at (48 + v))
 put-digit {s} {at} {v} h k = record {
   is =
@@ -167,3 +192,21 @@ module _ {s s′ : List ℕ} {at n v : ℕ} (h : 10 ≤ v) (k : Fits v) (f : at 
       let e = p .ends in
       let m : length s′ ≡ length s = ap length (p .is) ∙ length-splice s at (decimal (v / 10)) (omega arith) in
       omega arith
+
+-- ---- one text written after another
+
+pub put-then : {a b s t u : List ℕ} {at m n : ℕ} → Put a s at m t → Put b t m n u → n ≤ length s → Put (a ++ b) s at n u
+put-then {a} {b} {s} {t} {u} {at} {m} {n} p q h =
+    let e = p .ends in
+    let f = q .ends in
+    record {
+      is = q .is ∙ (ap (λ (l : List ℕ). splice l m b) (p .is) ∙ chain s a b at m (sym e) (omega arith));
+      ends = omega (arith, length-append a b);
+    }
+
+pub put-as : {a b s t : List ℕ} {at n : ℕ} → a ≡ b → Put a s at n t → Put b s at n t
+put-as {a} {b} {s} {t} {at} {n} e p = subst (λ (l : List ℕ). Put l s at n t) e p
+
+pub rev-joined : (v : Revision) → (decimal (v .number .0) ++ text dash) ++ hex (v .hash) ≡ revText v
+unfolding revText
+rev-joined v = append-assoc (decimal (v .number .0)) (text dash) (hex (v .hash))

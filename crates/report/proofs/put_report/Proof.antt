@@ -4,7 +4,7 @@ use native.Mathlib.Omega.{arith}
 use lib.ListN.{length}
 use Rattle.report.specs.Lines.{reportMost}
 use Rattle.report.proofs.JudgedLaws.{load-judges}
-use Rattle.report.proofs.PutLaws.{put-as}
+use Rattle.text.proofs.TextLaws.{put-as}
 use borrow.Author.Needs.{needs}
 use Rattle.report.proofs.put_report.Statement.{statement}
 use Rattle.report.proofs.put_report.Tie as tie

@@ -2,7 +2,8 @@
 use Prim.Native.Nat.{_-_}
 use native.Mathlib.Omega.{arith}
 use Rattle.rules.specs.Report.{text}
-use Rattle.report.proofs.PutLaws.{put-then, put-as, counts-joined}
+use Rattle.text.proofs.TextLaws.{put-then, put-as}
+use Rattle.report.proofs.PutLaws.{counts-joined}
 use borrow.Author.Needs.{needs}
 use Rattle.report.proofs.line.put_counts.Statement.{statement}
 use Rattle.report.proofs.line.put_counts.Tie as tie

@@ -2,7 +2,8 @@
 use Rattle.store.specs.Storage.{replicaOf}
 use native.Mathlib.Omega.{arith}
 use Rattle.rules.specs.Report.{text}
-use Rattle.report.proofs.PutLaws.{put-then, put-as, head-joined}
+use Rattle.text.proofs.TextLaws.{put-then, put-as}
+use Rattle.report.proofs.PutLaws.{head-joined}
 use borrow.Author.Needs.{needs}
 use Rattle.report.proofs.line.put_head.Statement.{statement}
 use Rattle.report.proofs.line.put_head.Tie as tie

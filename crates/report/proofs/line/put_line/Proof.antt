@@ -4,12 +4,11 @@ use native.Mathlib.Omega.{arith}
 use lib.ListN.{length}
 use Rattle.rules.specs.Report.{text}
 use Rattle.rules.specs.Room.{idMost}
-use Rattle.text.proofs.TextLaws.{length-hex}
+use Rattle.text.proofs.TextLaws.{length-hex, put-then, put-as}
 use Rattle.store.specs.Documents.{documentsOf, documentAt, HasDocument}
 use Rattle.store.proofs.BodyLaws.{body-shows, body-standing}
 use Rattle.store.proofs.FitLaws.{stored-laid}
 use Rattle.reads.proofs.OpenLaws.{each-document, has-tree, tree-rows}
-use Rattle.report.proofs.PutLaws.{put-then, put-as}
 use Rattle.report.proofs.StandingLaws.{id-most, line-joined}
 use borrow.Author.Needs.{needs}
 use Rattle.report.proofs.line.put_line.Statement.{statement}

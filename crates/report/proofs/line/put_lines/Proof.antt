@@ -8,7 +8,7 @@ use Rattle.text.specs.Text.{Put}
 use Rattle.store.specs.Documents.{documentsOf}
 use Rattle.store.proofs.FitLaws.{stored-laid}
 use Rattle.report.specs.Lines.{lineMost, linesText}
-use Rattle.report.proofs.PutLaws.{put-then, put-as}
+use Rattle.text.proofs.TextLaws.{put-then, put-as}
 use Rattle.report.proofs.StandingLaws.{lines-none, lines-more}
 use borrow.Author.Needs.{needs}
 use Rattle.report.proofs.line.put_lines.Statement.{statement}

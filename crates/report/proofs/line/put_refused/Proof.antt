@@ -1,7 +1,8 @@
 -- `report::line::put_refused` meets its contract. Assumes nothing.
 use native.Mathlib.Omega.{arith}
 use Rattle.rules.specs.Report.{text}
-use Rattle.report.proofs.PutLaws.{put-then, put-as, refused-joined}
+use Rattle.text.proofs.TextLaws.{put-then, put-as}
+use Rattle.report.proofs.PutLaws.{refused-joined}
 use borrow.Author.Needs.{needs}
 use Rattle.report.proofs.line.put_refused.Statement.{statement}
 use Rattle.report.proofs.line.put_refused.Tie as tie

@@ -2,7 +2,7 @@
 use native.Mathlib.Omega.{arith}
 use Rattle.store.specs.Storage.{replicaOf}
 use Rattle.store.proofs.FitLaws.{stored-laid}
-use Rattle.report.proofs.PutLaws.{put-then, put-as}
+use Rattle.text.proofs.TextLaws.{put-then, put-as}
 use Rattle.report.proofs.StandingLaws.{replica-joined}
 use borrow.Author.Needs.{needs}
 use Rattle.report.proofs.line.put_replica.Statement.{statement}

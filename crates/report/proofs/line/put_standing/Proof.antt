@@ -5,7 +5,7 @@ use Rattle.rules.specs.Report.{text}
 use Rattle.tree.specs.Table.{treeIn}
 use Rattle.tree.proofs.TableLaws.{length-tree}
 use Rattle.reads.proofs.TreeLaws.{leaves-most}
-use Rattle.report.proofs.PutLaws.{put-then, put-as}
+use Rattle.text.proofs.TextLaws.{put-then, put-as}
 use Rattle.report.proofs.StandingLaws.{winner-rev, standing-joined}
 use Rattle.report.proofs.WinnerLaws.{conflict-count}
 use borrow.Author.Needs.{needs}
