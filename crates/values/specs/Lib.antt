@@ -1,0 +1,3 @@
+-- What the promises of this crate cite.
+pub mod Places
+pub mod Reading
