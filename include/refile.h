@@ -15,13 +15,13 @@
  *
  * `if (!result)` and `if (result)` are both wrong: 0 is a common answer (a load that went well, a
  * write that changed nothing), and so is a number above 0. Ask `if (refile_refusal(result) != 0)`.
- * What the value counts differs: refile_winner, refile_save and refile_report answer bytes,
- * refile_leaves and refile_path answer leaves and hashes.
+ * What the value counts differs: refile_winner, refile_save, refile_put_out and refile_report answer
+ * bytes, refile_leaves and refile_path answer leaves and hashes.
  *
  * A refused call leaves the replica and every lent buffer with the contents they came with. An
  * accepted call writes its answer at the front of the buffer and leaves the bytes after it.
  * Refusal 14 does not tell the size that is wanted: lend a buffer that always suffices, the macros
- * named ..._MOST and ..._BYTES.
+ * named ..._MOST and ..._BYTES, and for refile_put_out what refile_put_out_size answers.
  *
  * REPLICAS. A replica is a buffer of REFILE_REPLICA_BYTES bytes that the caller owns and lends to
  * each call. It may be copied byte for byte, and moved, and needs no alignment. Two replicas hold
@@ -63,7 +63,7 @@ extern "C" {
 /* The version of this header. refile_version answers the archive's, in the same form, and
  * refile_belongs whether the two are one. */
 #define REFILE_VERSION_MAJOR 0u
-#define REFILE_VERSION_MINOR 2u
+#define REFILE_VERSION_MINOR 3u
 #define REFILE_VERSION_PATCH 0u
 #define REFILE_VERSION \
     (1000000u * REFILE_VERSION_MAJOR + 1000u * REFILE_VERSION_MINOR + REFILE_VERSION_PATCH)
@@ -144,6 +144,15 @@ extern "C" {
 #define REFILE_IMAGE_PARENT 26u    /* a known parent isn't in the document, or the kind doesn't fit
                                       the children; place: the first bad row */
 
+/* Refusals of a line, which is a document as the protocol writes it: tried in this order, before 1 to
+ * 8. Putting lines out tries 43 too. */
+#define REFILE_NOT_JSON 40u        /* not one UTF-8 JSON object (RFC 8259), or objects and arrays stand
+                                      inside each other deeper than 16, the line being 1 */
+#define REFILE_BAD_MEMBER 41u      /* a member is absent, repeated or of the wrong form */
+#define REFILE_OTHER_REVISIONS 42u /* _rev and _revisions differ, or there are no ids */
+#define REFILE_UNWRITABLE_ID 43u   /* the id can't be written: as written it has a byte outside 20 to 7e
+                                      hex, a quote or a backslash */
+
 /* House refusals: what this boundary can get and the rules have no number for. They are checked
  * before all others: 100 and then 106 of a replica, of a pull the target's and then the source's; then
  * 101 to 105 in that order. */
@@ -200,6 +209,14 @@ extern "C" {
       "a row of the image is at fault by itself or out of order; keep it and take another copy") \
     X(REFILE_IMAGE_PARENT, \
       "a row of the image does not fit its parent or its children; keep it and take another copy") \
+    X(REFILE_NOT_JSON, \
+      "the line is not one JSON object in UTF-8, or is nested deeper than 16; see that it came over whole") \
+    X(REFILE_BAD_MEMBER, \
+      "a member of the line is absent, repeated or of the wrong form; see in the manual what a line has") \
+    X(REFILE_OTHER_REVISIONS, \
+      "the line's _rev and _revisions differ, or there are no ids; take the line anew from its source") \
+    X(REFILE_UNWRITABLE_ID, \
+      "the id can't be written in a line; bring the document over by a pull, or in an image") \
     X(REFILE_BAD_REPLICA, \
       "a replica's buffer does not have a replica's size; lend the whole buffer with its length") \
     X(REFILE_BAD_KIND, "the kind of content is neither 1, live, nor 2, deleted; give one of these") \
@@ -317,6 +334,13 @@ uint64_t refile_write(uint8_t *replica, size_t replica_len, const uint8_t *id, s
                       uint32_t number, const uint8_t *path, size_t path_len, uint32_t kind,
                       uint64_t label);
 
+/* Takes in one line of a dump, a JSON object, as the path write that it says: members _id, _rev, perhaps
+ * _revisions with start and ids, and either label or _deleted; unknown members are passed over. A newline
+ * or other space at either end is no fault; an empty line is 40, and so is one with a closing NUL.
+ * Value: 1 changed, 0 unchanged. Refusals: 100, 106; 40 to 43 in that order; then 1 to 8 in that order. */
+REFILE_MUST_CHECK
+uint64_t refile_take_in(uint8_t *replica, size_t replica_len, const uint8_t *line, size_t line_len);
+
 /* Ordinary edit: an id, the new revision's hash (16 bytes), its content as in refile_write, and the
  * parent: named is 1 and parent_number and parent_hash (16 bytes) name it, or named is 0,
  * parent_number is 0 and parent_hash is empty (NULL and 0 will do).
@@ -347,6 +371,19 @@ REFILE_MUST_CHECK
 uint64_t refile_path(const uint8_t *replica, size_t replica_len, const uint8_t *id, size_t id_len,
                      uint32_t number, const uint8_t *hash, size_t hash_len, uint8_t *out,
                      size_t out_len);
+
+/* Puts the document's leaves out, highest first, a line each as refile_take_in takes it, without spaces
+ * and with a newline at its end; no NUL is written. Value: how many bytes were written, not lines.
+ * Refusals: 100, 106; 1, 12, 43, 14. Lend as many bytes as refile_put_out_size answers. */
+REFILE_MUST_CHECK
+uint64_t refile_put_out(const uint8_t *replica, size_t replica_len, const uint8_t *id, size_t id_len,
+                        uint8_t *out, size_t out_len);
+
+/* Value: how many bytes refile_put_out would write, which may be some millions: each leaf's line has its
+ * whole known path. Refusals: 100, 106; 1, 12, 43. */
+REFILE_MUST_CHECK
+uint64_t refile_put_out_size(const uint8_t *replica, size_t replica_len, const uint8_t *id,
+                             size_t id_len);
 
 /* For each asked revision (20 bytes: number, hash) writes one byte, 0 known, 1 missing.
  * Value: how many bytes were written. Refusals: 100, 106; 1, 15, 14. Lend as many bytes as there are
@@ -449,6 +486,14 @@ static inline uint64_t refile_write_lent(uint8_t *replica, size_t replica_len, c
 #define refile_write refile_write_lent
 
 REFILE_MUST_CHECK
+static inline uint64_t refile_take_in_lent(uint8_t *replica, size_t replica_len, const uint8_t *line,
+                                           size_t line_len) {
+    return refile_take_in(refile_lent_out(replica, replica_len), replica_len,
+                          refile_lent(line, line_len), line_len);
+}
+#define refile_take_in refile_take_in_lent
+
+REFILE_MUST_CHECK
 static inline uint64_t refile_edit_lent(uint8_t *replica, size_t replica_len, const uint8_t *id,
                                         size_t id_len, const uint8_t *hash, size_t hash_len,
                                         uint32_t kind, uint64_t label, uint32_t named,
@@ -488,6 +533,23 @@ static inline uint64_t refile_path_lent(const uint8_t *replica, size_t replica_l
                        refile_lent_out(out, out_len), out_len);
 }
 #define refile_path refile_path_lent
+
+REFILE_MUST_CHECK
+static inline uint64_t refile_put_out_lent(const uint8_t *replica, size_t replica_len,
+                                           const uint8_t *id, size_t id_len, uint8_t *out,
+                                           size_t out_len) {
+    return refile_put_out(refile_lent(replica, replica_len), replica_len, refile_lent(id, id_len),
+                          id_len, refile_lent_out(out, out_len), out_len);
+}
+#define refile_put_out refile_put_out_lent
+
+REFILE_MUST_CHECK
+static inline uint64_t refile_put_out_size_lent(const uint8_t *replica, size_t replica_len,
+                                                const uint8_t *id, size_t id_len) {
+    return refile_put_out_size(refile_lent(replica, replica_len), replica_len,
+                               refile_lent(id, id_len), id_len);
+}
+#define refile_put_out_size refile_put_out_size_lent
 
 REFILE_MUST_CHECK
 static inline uint64_t refile_missing_lent(const uint8_t *replica, size_t replica_len,

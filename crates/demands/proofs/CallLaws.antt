@@ -72,7 +72,7 @@ module _ (x : ℕ) where
   accepted-if (written.Refused n) d h = absurd h
 
 -- an accepted call was lent a replica
-lent-one : {L : Type 0} (s : List ℕ) (us : List (Bool × ℕ)) {lent : L} {o : Numbered × L} {r : ℕ} {left : L}
+pub lent-one : {L : Type 0} (s : List ℕ) (us : List (Bool × ℕ)) {lent : L} {o : Numbered × L} {r : ℕ} {left : L}
     → Told (lentCall s us lent o) r left → Lent s → C.IsAccepted r → IsStored s
 lent-one s us t l a = lent-stands s (first-both (lentHouse s) us (t .past a) .0) l
 

@@ -11,3 +11,4 @@ pub mod LeafLaws
 pub mod Examples
 pub mod Exist
 pub mod Instances
+pub mod Lines

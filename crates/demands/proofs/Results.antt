@@ -2,17 +2,23 @@
 use mathlib.Core.Path.{_≡_, refl, ap, subst, transport}
 use mathlib.Core.Bool.{Bool, true, false}
 use mathlib.Core.List.{List, []}
+use mathlib.Core.Option.{Option, none}
 use Prim.Native.Nat.{ℕ, _*_, _^_, _<_, _≤_}
 use native.Mathlib.Omega.{arith}
 use borrow.Author.Tests.{ltb-true, ltb-false}
 use lib.Dec.{ltb}
+use Rattle.rules.specs.Choice.{firstThat}
 use Rattle.rules.specs.Image.{save}
 use Rattle.rules.specs.Read.{leaves, readWinner, readLeaves, readMissing}
 use Rattle.rules.specs.Replica.{treeOf}
 use Rattle.store.specs.Storage.{replicaOf, IsStored}
-use Rattle.refile.specs.Boundary.{refusedFrom, Calls, Lent, freshCall, loadCall, saveCall, writeCall, editCall, pullCall, winnerCall, leavesCall, missingCall}
+use Rattle.refile.specs.Boundary.{refusedFrom, Calls, Lent, lentHouse, freshCall, loadCall, saveCall, writeCall, editCall, pullCall, winnerCall, leavesCall, missingCall, takeInCall, putOutCall}
 use Rattle.refile.specs.Decode.{Told}
 use Rattle.refile.proofs.FairLaws.{FairCall, tells, read-fair, leaves-bytes, fresh-fair, load-fair, write-fair, edit-fair, pull-fair, path-fair, changes-fair, sequence-fair, counts-fair, report-fair}
+use Rattle.refile.proofs.LineLaws.{take-fair, size-fair}
+use Rattle.refile.proofs.Keeps.{replica-passes}
+use Rattle.lines.specs.Put.{putOut}
+use Rattle.lines.specs.Take.{Members, Holds}
 use Rattle.demands.specs.Calls as C
 use Rattle.demands.specs.Calls.{Exported, CallOf, Called, Tells, Kept}
 
@@ -46,6 +52,9 @@ save-tells = law C.save (λ c. c .promise) (λ c. let l = small _ (c .in-range .
 pub write-tells : Tells C.write
 write-tells = law C.write (λ c. c .promise .calls) (λ c. write-fair _ _ _ _ _ _ (c .asks))
 
+pub take-in-tells : Tells C.takeIn
+take-in-tells = law C.takeIn (λ c. c .promise .keeps .calls) (λ c. take-fair _ _ (c .asks))
+
 pub edit-tells : Tells C.edit
 edit-tells = law C.edit (λ c. c .promise .calls) (λ c. edit-fair _ _ _ _ _ _ _ _ (c .asks) (low _ (c .in-range .1 .1 .1 .1 .1 .1 .0)))
 
@@ -68,6 +77,13 @@ path-tells = law C.path (λ c. c .promise) (λ c. path-fair _ _ _ _ _ (low _ (c 
 pub missing-tells : Tells C.missing
 unfolding missingCall readMissing
 missing-tells = law C.missing (λ c. c .promise) (λ c. let l = small _ (c .in-range .1 .1 .1 .0) in read-fair _ [] _ _ _ _ tt (λ h. omega arith))
+
+pub put-out-tells : Tells C.putOut
+unfolding putOutCall putOut
+put-out-tells = law C.putOut (λ c. c .promise) (λ c. let l = small _ (c .in-range .1 .1 .0) in read-fair _ [] _ _ _ _ tt (λ h. omega arith))
+
+pub put-out-size-tells : Tells C.putOutSize
+put-out-size-tells = law C.putOutSize (λ c. c .promise) (λ c. size-fair _ _ (c .asks))
 
 pub changes-tells : Tells C.changes
 changes-tells = law C.changes (λ c. c .promise) (λ c. changes-fair _ _ _ _)
@@ -106,6 +122,19 @@ save-lent = asked C.save (λ g. Lent (g .0)) (λ c. c .asks)
 pub write-lent : {given : C.write .Given} {r : ℕ} {left : List ℕ} → Called C.write given r left → Lent (given .0)
 write-lent = asked C.write (λ g. Lent (g .0)) (λ c. c .asks)
 
+pub take-in-lent : {given : C.takeIn .Given} {r : ℕ} {left : List ℕ} → Called C.takeIn given r left → Lent (given .0)
+take-in-lent = asked C.takeIn (λ g. Lent (g .0)) (λ c. c .asks)
+
+-- past the house refusals the text of the line holds what the promise says
+pub take-in-holds : {s l : List ℕ} {ms : Option Members} {r : ℕ} {left : List ℕ} → Called C.takeIn (s, l, ms) r left → IsStored s → Holds l ms
+take-in-holds {s} k i = asked C.takeIn (λ g. firstThat (lentHouse (g .0)) ≡ none → Holds (g .1) (g .2)) (λ c. c .promise .holds) k (replica-passes s i)
+
+pub put-out-lent : {given : C.putOut .Given} {r : ℕ} {left : List ℕ} → Called C.putOut given r left → Lent (given .0)
+put-out-lent = asked C.putOut (λ g. Lent (g .0)) (λ c. c .asks)
+
+pub put-out-size-lent : {given : C.putOutSize .Given} {r : ℕ} → Called C.putOutSize given r tt → Lent (given .0)
+put-out-size-lent = asked C.putOutSize (λ g. Lent (g .0)) (λ c. c .asks)
+
 pub edit-lent : {given : C.edit .Given} {r : ℕ} {left : List ℕ} → Called C.edit given r left → Lent (given .0)
 edit-lent = asked C.edit (λ g. Lent (g .0)) (λ c. c .asks)
 
@@ -124,6 +153,11 @@ pub write-kept : {given : C.write .Given} {r : ℕ} {left : List ℕ} → Called
 unfolding writeCall
 write-kept k =
     let d = kept _ _ _ (stands C.write (λ l. l) (λ c. c .promise .stands) k) (write-tells .told k .refused) in (d, d .lends (write-lent k))
+
+pub take-in-kept : {given : C.takeIn .Given} {r : ℕ} {left : List ℕ} → Called C.takeIn given r left → Kept (given .0) r left × Lent left
+unfolding takeInCall
+take-in-kept k =
+    let d = kept _ _ _ (stands C.takeIn (λ l. l) (λ c. c .promise .keeps .stands) k) (take-in-tells .told k .refused) in (d, d .lends (take-in-lent k))
 
 pub edit-kept : {given : C.edit .Given} {r : ℕ} {left : List ℕ} → Called C.edit given r left → Kept (given .0) r left × Lent left
 unfolding editCall

@@ -18,8 +18,9 @@ use Rattle.rules.specs.Union.{IsWrite}
 use Rattle.rules.specs.Write.{Write}
 use Rattle.union.specs.Said.{IsEdit}
 use Rattle.store.specs.Storage.{IsStored}
-use Rattle.refile.specs.Boundary.{refusedFrom, CCall, Lent, freshCall, loadCall, saveCall, writeCall, editCall, pullCall}
-use Rattle.refile.specs.Boundary.{winnerCall, leavesCall, pathCall, missingCall, changesCall, sequenceCall, countsCall, reportCall}
+use Rattle.lines.specs.Take.{Members, Holds}
+use Rattle.refile.specs.Boundary.{refusedFrom, CCall, Lent, freshCall, loadCall, saveCall, writeCall, takeInCall, editCall, pullCall}
+use Rattle.refile.specs.Boundary.{winnerCall, leavesCall, pathCall, missingCall, putOutCall, putOutSizeCall, changesCall, sequenceCall, countsCall, reportCall}
 use Rattle.refile.specs.Decode.{refusalIn, Told}
 use Rattle.refile.proofs.change.refile_fresh.Kinds as freshK
 use Rattle.refile.proofs.change.refile_fresh.Reads as freshR
@@ -29,6 +30,8 @@ use Rattle.refile.proofs.change.refile_save.Kinds as saveK
 use Rattle.refile.proofs.change.refile_save.Reads as saveR
 use Rattle.refile.proofs.change.refile_write.Kinds as writeK
 use Rattle.refile.proofs.change.refile_write.Reads as writeR
+use Rattle.refile.proofs.change.refile_take_in.Kinds as takeInK
+use Rattle.refile.proofs.change.refile_take_in.Reads as takeInR
 use Rattle.refile.proofs.change.refile_edit.Kinds as editK
 use Rattle.refile.proofs.change.refile_edit.Reads as editR
 use Rattle.refile.proofs.change.refile_pull.Kinds as pullK
@@ -41,6 +44,10 @@ use Rattle.refile.proofs.read.refile_path.Kinds as pathK
 use Rattle.refile.proofs.read.refile_path.Reads as pathR
 use Rattle.refile.proofs.read.refile_missing.Kinds as missingK
 use Rattle.refile.proofs.read.refile_missing.Reads as missingR
+use Rattle.refile.proofs.read.refile_put_out.Kinds as putOutK
+use Rattle.refile.proofs.read.refile_put_out.Reads as putOutR
+use Rattle.refile.proofs.read.refile_put_out_size.Kinds as putOutSizeK
+use Rattle.refile.proofs.read.refile_put_out_size.Reads as putOutSizeR
 use Rattle.refile.proofs.read.refile_changes.Kinds as changesK
 use Rattle.refile.proofs.read.refile_changes.Reads as changesR
 use Rattle.refile.proofs.read.refile_update_sequence.Kinds as sequenceK
@@ -119,6 +126,12 @@ write = exported writeK.ps writeR.Asked writeR.Learnt (List ℕ × Id × ℕ × 
     (λ c. (c .args .0 .now, c .args .1 .0 .now, c .args .1 .1 .0, c .args .1 .1 .1 .0 .now, c .args .1 .1 .1 .1 .0, c .args .1 .1 .1 .1 .1 .0)) (λ c. c .exit .0 .now)
     (λ g. writeCall (g .0) (g .1) (g .2) (g .3) (g .4) (g .5))
 
+-- what the text of the line holds is told by the promise
+abbrev pub takeIn : Exported
+takeIn = exported takeInK.ps takeInR.Asked takeInR.Learnt (List ℕ × List ℕ × Option Members) (List ℕ)
+    (λ c. (c .args .0 .now, c .args .1 .0 .now, c .promise .members)) (λ c. c .exit .0 .now)
+    (λ g. takeInCall (g .0) (g .2))
+
 abbrev pub edit : Exported
 edit = exported editK.ps editR.Asked editR.Learnt (List ℕ × Id × List ℕ × ℕ × ℕ × ℕ × ℕ × List ℕ) (List ℕ)
     (λ c. let a = c .args .1 .1 .1 in (c .args .0 .now, c .args .1 .0 .now, c .args .1 .1 .0 .now, a .0, a .1 .0, a .1 .1 .0, a .1 .1 .1 .0, a .1 .1 .1 .1 .0 .now))
@@ -151,6 +164,16 @@ abbrev pub missing : Exported
 missing = exported missingK.ps missingR.Asked missingR.Learnt (List ℕ × Id × List ℕ × List ℕ) (List ℕ)
     (λ c. (c .args .0 .now, c .args .1 .0 .now, c .args .1 .1 .0 .now, c .args .1 .1 .1 .0 .now)) (λ c. c .exit .1 .1 .1 .0 .now)
     (λ g. missingCall (g .0) (g .1) (g .2) (g .3))
+
+abbrev pub putOut : Exported
+putOut = exported putOutK.ps putOutR.Asked putOutR.Learnt (List ℕ × Id × List ℕ) (List ℕ)
+    (λ c. (c .args .0 .now, c .args .1 .0 .now, c .args .1 .1 .0 .now)) (λ c. c .exit .1 .1 .0 .now)
+    (λ g. putOutCall (g .0) (g .1) (g .2))
+
+abbrev pub putOutSize : Exported
+putOutSize = exported putOutSizeK.ps putOutSizeR.Asked putOutSizeR.Learnt (List ℕ × Id) (Unit {0})
+    (λ c. (c .args .0 .now, c .args .1 .0 .now)) (λ c. tt)
+    (λ g. putOutSizeCall (g .0) (g .1))
 
 abbrev pub changes : Exported
 changes = exported changesK.ps changesR.Asked changesR.Learnt (List ℕ × Seq × List ℕ × List ℕ) (List ℕ × List ℕ)

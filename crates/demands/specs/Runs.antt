@@ -1,12 +1,14 @@
 -- Calls one after the other: writes, and pulls with the counts that they answer.
 use mathlib.Core.Path.{_≡_}
 use mathlib.Core.List.{List, [], _∷_}
+use mathlib.Core.Option.{Option}
 use Prim.Native.Nat.{ℕ}
 use Rattle.rules.specs.declared.Counts.{Counts}
 use Rattle.rules.specs.declared.Seq.{Seq}
 use Rattle.rules.specs.Bytes.{value, part}
 use Rattle.rules.specs.Union.{allFrom}
 use Rattle.rules.specs.Write.{Write}
+use Rattle.lines.specs.Take.{Members}
 use Rattle.demands.specs.Calls as C
 use Rattle.demands.specs.Calls.{IsAccepted, Called, WriteCall}
 
@@ -30,6 +32,18 @@ pub record Made (ws : List Write) (left : List ℕ) : Type 0 where
   pub fresh : Called C.fresh buffer result made
   pub accepted : IsAccepted result
   pub writes : WriteCalls ws made left
+
+-- ---- lines
+
+-- the lines ls taken in, the first of them into the replica in s and each into what the one before it left
+abbrev pub TakeCalls : List (List ℕ) → List ℕ → List ℕ → Type 0
+TakeCalls [] s left = s ≡ left
+TakeCalls (l ∷ ls) s left = (ms : Option Members) × (r : ℕ) × (m : List ℕ) × Called C.takeIn (s, l, ms) r m × TakeCalls ls m left
+
+-- the result of each of them is one of which P holds
+abbrev pub EachResult : (P : ℕ → Type 0) (ls : List (List ℕ)) (s left : List ℕ) → TakeCalls ls s left → Type 0
+EachResult P [] s left calls = Unit {0}
+EachResult P (l ∷ ls) s left calls = P (calls .1) × EachResult P ls (calls .2) left (calls .4)
 
 -- ---- pulls
 

@@ -133,7 +133,7 @@ told-does {L} {c} t e = (t .decodes ∙ ap (λ (o : Numbered × L). o .0) (passe
 
 -- ---- the house refusals of a call that is lent a replica
 
-lent-numbers : (s : List ℕ) (house : List (Bool × ℕ)) → HouseNumbers house → HouseNumbers (lentHouse s ++ house)
+pub lent-numbers : (s : List ℕ) (house : List (Bool × ℕ)) → HouseNumbers house → HouseNumbers (lentHouse s ++ house)
 unfolding lentHouse badReplica badStart
 lent-numbers s house h = ((omega arith, omega arith), ((omega arith, omega arith), h))
 
@@ -148,11 +148,11 @@ fault-range zero place h k l = absurd (omega arith)
 fault-range (suc n) place h k l = (k, l)
 
 -- what the rules refuse, leaving what was lent
-rules-fair : {L : Type 0} (lent left : L) (x : Refusal) → left ≡ lent → Fair lent (refused (refusalNumber x), left)
+pub rules-fair : {L : Type 0} (lent left : L) (x : Refusal) → left ≡ lent → Fair lent (refused (refusalNumber x), left)
 rules-fair lent left x e = record { range = refused-range (refusalNumber x) (refusal-small x .0) (refusal-small x .1); left = λ n. e }
 
 -- what is accepted, with an answer below 2^63
-accepted-fair : {L : Type 0} (lent left : L) (v : ℕ) → v < refusedFrom → Fair lent (accepted v, left)
+pub accepted-fair : {L : Type 0} (lent left : L) (v : ℕ) → v < refusedFrom → Fair lent (accepted v, left)
 accepted-fair lent left v h = record { range = h; left = λ n. absurd (n refl) }
 
 -- an answer buffer that is too short, or not
@@ -265,7 +265,7 @@ module _ (s image : List ℕ) where
 -- ---- write
 
 module _ (s : List ℕ) (w : Write) where
-  write-as : IsStored s → Fair s (writtenNumber (write (replicaOf s) w .0), stored (write (replicaOf s) w .1))
+  pub write-as : IsStored s → Fair s (writtenNumber (write (replicaOf s) w .0), stored (write (replicaOf s) w .1))
   unfolding write
   write-as is = go (firstThat (writeRefusals (replicaOf s) w)) (adds (replicaOf s) w)
     where

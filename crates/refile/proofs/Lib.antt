@@ -8,3 +8,4 @@ pub mod Outcomes
 pub mod FairLaws
 pub mod Decode
 pub mod Keeps
+pub mod LineLaws

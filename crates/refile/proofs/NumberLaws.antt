@@ -12,10 +12,11 @@ use Rattle.rules.specs.declared.Loaded.the-variants as loaded
 use Rattle.rules.specs.declared.Refusal.{Refusal}
 use Rattle.rules.specs.declared.Refusal.the-variants.{BadId, BadPath, LowNumber, OtherParent, OtherContent, DocumentsFull, RevisionsFull, SequenceSpent}
 use Rattle.rules.specs.declared.Refusal.the-variants.{NotAParent, AlreadyKnown, LastNumber, NoDocument, NoRevision, ShortBuffer, BadAsked}
+use Rattle.rules.specs.declared.Refusal.the-variants.{NotJson, BadMember, OtherRevisions, UnwritableId}
 use Rattle.rules.specs.Answer.{Numbered, refused, loadedNumber}
 use Rattle.rules.specs.Refusal.{refusalNumber, faultNumber}
 use Rattle.rules.proofs.ChoiceLaws.{neither}
-use Rattle.refile.specs.Boundary.{refusedFrom, result, SmallPlace}
+use Rattle.refile.specs.Boundary.{refusedFrom, result, RefusalOf, SmallPlace}
 
 -- ---- no refusal has the number 0, nor one above the house's
 
@@ -43,11 +44,19 @@ refusal-small x =
       | NoRevision ↦ refl
       | ShortBuffer ↦ refl
       | BadAsked ↦ refl
+      | NotJson ↦ refl
+      | BadMember ↦ refl
+      | OtherRevisions ↦ refl
+      | UnwritableId ↦ refl
     ])
 
 pub fault-small : (f : Fault) → Small (faultNumber f)
 fault-small f =
     small-if (faultNumber f) (elim f [ TooShort ↦ refl | BadEdition ↦ refl | BadHead ↦ refl | BadContents ↦ refl | BadSequence ↦ refl | BadRow ↦ refl | BadParent ↦ refl ])
+
+-- the number of a refusal that is known
+pub numbered : {r x : Refusal} → r ≡ x → 1 ≤ refusalNumber x → refusalNumber x ≤ 43 → RefusalOf r (refusalNumber x)
+numbered e h k = record { is = sym (ap (λ (y : Refusal). refusalNumber y) e); least = h; most = k }
 
 none-at-zero : (n : ℕ) → Small n → n ≡ 0 → ⊥
 none-at-zero n h e = omega arith

@@ -5,6 +5,7 @@ use Prim.Native.Nat.{ℕ}
 use Rattle.rules.specs.Outcome.{OneOutcome, nothing}
 use Rattle.rules.proofs.OutcomeLaws.{fixed}
 use Rattle.refile.proofs.CallLaws.{calls-one, keeps-one, says-one}
+use Rattle.refile.proofs.LineLaws.{take-one}
 use Rattle.refile.proofs.about.refile_is_replica.Kinds as isReplica
 use Rattle.refile.proofs.about.refile_is_replica.Reads as isReplica'
 use Rattle.refile.proofs.about.refile_version.Kinds as version
@@ -17,6 +18,8 @@ use Rattle.refile.proofs.change.refile_save.Kinds as save
 use Rattle.refile.proofs.change.refile_save.Reads as save'
 use Rattle.refile.proofs.change.refile_write.Kinds as write
 use Rattle.refile.proofs.change.refile_write.Reads as write'
+use Rattle.refile.proofs.change.refile_take_in.Kinds as takeIn
+use Rattle.refile.proofs.change.refile_take_in.Reads as takeIn'
 use Rattle.refile.proofs.change.refile_edit.Kinds as edit
 use Rattle.refile.proofs.change.refile_edit.Reads as edit'
 use Rattle.refile.proofs.change.refile_pull.Kinds as pull
@@ -29,6 +32,10 @@ use Rattle.refile.proofs.read.refile_path.Kinds as path
 use Rattle.refile.proofs.read.refile_path.Reads as path'
 use Rattle.refile.proofs.read.refile_missing.Kinds as missing
 use Rattle.refile.proofs.read.refile_missing.Reads as missing'
+use Rattle.refile.proofs.read.refile_put_out.Kinds as putOut
+use Rattle.refile.proofs.read.refile_put_out.Reads as putOut'
+use Rattle.refile.proofs.read.refile_put_out_size.Kinds as putOutSize
+use Rattle.refile.proofs.read.refile_put_out_size.Reads as putOutSize'
 use Rattle.refile.proofs.read.refile_changes.Kinds as changes
 use Rattle.refile.proofs.read.refile_changes.Reads as changes'
 use Rattle.refile.proofs.read.refile_counts.Kinds as counts
@@ -49,6 +56,9 @@ refile-save-outcome κs a x y s t h p q = calls-one p q
 
 pub refile-write-outcome : OneOutcome _ write.ps write.r write'.Asked write'.Learnt (λ κs s. s .0 .now)
 refile-write-outcome κs a x y s t h p q = keeps-one p q
+
+pub refile-take-in-outcome : OneOutcome _ takeIn.ps takeIn.r takeIn'.Asked takeIn'.Learnt (λ κs s. s .0 .now)
+refile-take-in-outcome κs a x y s t h p q = take-one p q
 
 pub refile-edit-outcome : OneOutcome _ edit.ps edit.r edit'.Asked edit'.Learnt (λ κs s. s .0 .now)
 refile-edit-outcome κs a x y s t h p q = keeps-one p q
@@ -72,6 +82,12 @@ refile-path-outcome κs a x y s t h p q = calls-one p q
 
 pub refile-missing-outcome : OneOutcome _ missing.ps missing.r missing'.Asked missing'.Learnt (λ κs s. s .1 .1 .1 .0 .now)
 refile-missing-outcome κs a x y s t h p q = calls-one p q
+
+pub refile-put-out-outcome : OneOutcome _ putOut.ps putOut.r putOut'.Asked putOut'.Learnt (λ κs s. s .1 .1 .0 .now)
+refile-put-out-outcome κs a x y s t h p q = calls-one p q
+
+pub refile-put-out-size-outcome : OneOutcome _ putOutSize.ps putOutSize.r putOutSize'.Asked putOutSize'.Learnt nothing
+refile-put-out-size-outcome κs a x y s t h p q = calls-one p q
 
 pub refile-changes-outcome :
     OneOutcome _ changes.ps changes.r changes'.Asked changes'.Learnt {X = List ℕ × List ℕ} (λ κs s. (s .1 .1 .0 .now, s .1 .1 .1 .0 .now))

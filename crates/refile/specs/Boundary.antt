@@ -34,6 +34,8 @@ use Rattle.rules.specs.Replica.{Id, fresh, revision}
 use Rattle.rules.specs.Report.{readReport}
 use Rattle.rules.specs.Room.{hashSize}
 use Rattle.rules.specs.Write.{Write, write}
+use Rattle.lines.specs.Put.{putOut, putOutSize}
+use Rattle.lines.specs.Take.{Members, Holds, takeIn}
 use Rattle.codec.specs.Codec.{loadBytes}
 use Rattle.store.specs.Storage.{storeSize, stored, replicaOf, IsStored}
 
@@ -51,11 +53,11 @@ resultOf (suc n) v = refusedFrom + suc n * 4294967296 + v
 abbrev pub result : Numbered → ℕ
 result n = resultOf (n .refusal) (n .value)
 
--- n is the number of a refusal, which is one of fifteen
+-- n is the number of a refusal, the greatest of which is 43
 pub record RefusalOf (r : Refusal) (n : ℕ) : Type 0 where
   pub is : n ≡ refusalNumber r
   pub least : 1 ≤ n
-  pub most : n ≤ 15
+  pub most : n ≤ 43
 
 -- a place that the lower half holds
 abbrev pub SmallPlace : Loaded → Type 0
@@ -175,6 +177,17 @@ writeCall s i number path kind label =
     let o = write (replicaOf s) w in
     lentCall s (badKind kind ∷ badLabel kind label ∷ []) s (writtenNumber (o .0), stored (o .1))
 
+-- of what the line's text holds
+unfoldable pub takeInCall : List ℕ → Option Members → CCall (List ℕ)
+takeInCall s ms =
+    let o = takeIn (replicaOf s) ms in lentCall s [] s (writtenNumber (o .0), stored (o .1))
+
+-- a call that takes the text of a line in: past the house refusals the members are those that the text holds
+pub record TakesCall (s line : List ℕ) (r : ℕ) (left : List ℕ) : Type 0 where
+  pub members : Option Members
+  pub holds : firstThat (lentHouse s) ≡ none → Holds line members
+  pub keeps : Keeps (takeInCall s members) r left left
+
 -- 104 of a parent that is named, else 105
 unfoldable pub parentHouse : ℕ → ℕ → List ℕ → Bool × ℕ
 parentHouse named number parent = pick (eqb named 1) (badHash parent) (badNoParent number parent)
@@ -216,6 +229,13 @@ pathCall s i number hash out = readCall s (badHash hash ∷ []) out (readPath (r
 unfoldable pub missingCall : List ℕ → Id → List ℕ → List ℕ → CCall (List ℕ)
 missingCall s i asked out = readCall s [] out (readMissing (replicaOf s) i asked out)
 
+unfoldable pub putOutCall : List ℕ → Id → List ℕ → CCall (List ℕ)
+putOutCall s i out = readCall s [] out (putOut (replicaOf s) i out)
+
+-- it is lent nothing to be changed
+unfoldable pub putOutSizeCall : List ℕ → Id → CCall (Unit {0})
+putOutSizeCall s i = lentCall s [] tt (answeredNumber (putOutSize (replicaOf s) i), tt)
+
 abbrev pub flagNumber : Bool → ℕ
 flagNumber false = 0
 flagNumber true = 1
@@ -245,7 +265,6 @@ pullCall target source after answer =
     lentCall target (lentHouse source) (target, answer)
     (answering (countBytes (o .0)) answer (target, answer) (accepted 0, (stored (o .1), front (countBytes (o .0)) answer)))
 
--- it is lent nothing to be changed
 unfoldable pub sequenceCall : List ℕ → CCall (Unit {0})
 sequenceCall s = lentCall s [] tt (accepted (replicaOf s .seq .0), tt)
 
@@ -273,6 +292,6 @@ pub record Says (so : Type 0) (r : ℕ) : Type 0 where
 abbrev pub versionOf : ℕ → ℕ → ℕ → ℕ
 versionOf major minor patch = major * 1000000 + minor * 1000 + patch
 
--- 0.2.0
+-- 0.3.0
 abbrev pub version : ℕ
-version = versionOf 0 2 0
+version = versionOf 0 3 0

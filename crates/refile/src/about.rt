@@ -4,8 +4,8 @@ ghost use mathlib.Core.Path.{_≡_};
 ghost use Rattle.store.specs.Storage.{IsStored};
 ghost use Rattle.refile.specs.Boundary.{Says, version};
 
-// 0.2.0 as one number.
-const VERSION: u64 = 2000;
+// 0.3.0 as one number.
+const VERSION: u64 = 3000;
 
 #[no_mangle]
 pub extern "C" fn refile_version() -> u64

@@ -27,13 +27,14 @@ use rules::RevNumber;
 use rules::Revision;
 use rules::Seq;
 use store::change::make_fresh;
+use takes::take_in;
 use writes::write;
 ghost use mathlib.Core.Path.{_≡_};
 ghost use mathlib.Core.List.{[], _∷_};
 ghost use lib.ListN.{length};
 ghost use Rattle.rules.specs.Replica.{revision};
 ghost use Rattle.rules.specs.Room.{hashSize};
-ghost use Rattle.refile.specs.Boundary.{Calls, Keeps, House, Lent, badKind, badLabel, parentHouse, editHouse, parentFrom, freshCall, loadCall, saveCall, writeCall, editCall, pullCall};
+ghost use Rattle.refile.specs.Boundary.{Calls, Keeps, House, Lent, badKind, badLabel, parentHouse, editHouse, parentFrom, freshCall, loadCall, saveCall, writeCall, TakesCall, editCall, pullCall};
 
 // What pull writes to its answer: three numbers.
 const COUNTS: usize = 12;
@@ -109,6 +110,18 @@ pub extern "C" fn refile_write(
     }
     let content = content_from(kind, label);
     written(write(replica, id, RevNumber(number), path, content))
+}
+
+#[no_mangle]
+pub extern "C" fn refile_take_in(replica: &mut [u8], line: &[u8]) -> u64
+    requires { ⌜ Lent (now replica) ⌝ }
+    ensures { λ r. ⌜ TakesCall (now (replica .entry)) (now (line .entry)) r (now (replica .exit)) ⌝ }
+{
+    let lent = bad_replica(replica);
+    if lent != 0 {
+        return refused(lent);
+    }
+    written(take_in(replica, line))
 }
 
 // The house refusal of a parent, 0 if there is none.

@@ -70,6 +70,10 @@ pub(crate) fn refusal_number(r: Refusal) -> u64
         Refusal::NoRevision => 13,
         Refusal::ShortBuffer => 14,
         Refusal::BadAsked => 15,
+        Refusal::NotJson => 40,
+        Refusal::BadMember => 41,
+        Refusal::OtherRevisions => 42,
+        Refusal::UnwritableId => 43,
     }
 }
 

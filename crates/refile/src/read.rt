@@ -7,6 +7,8 @@ use crate::number::bad_replica;
 use crate::number::refusal_number;
 use crate::number::refused;
 use octets::run::get_hash;
+use puts::put_out;
+use puts::put_out_size;
 use reads::document::leaves;
 use reads::document::missing;
 use reads::document::path;
@@ -31,7 +33,7 @@ ghost use Rattle.rules.specs.Choice.{maybe};
 ghost use Rattle.rules.specs.Read.{front, firstOf, documentsAfter};
 ghost use Rattle.store.specs.Documents.{documentsOf};
 ghost use Rattle.store.specs.Storage.{IsStored};
-ghost use Rattle.refile.specs.Boundary.{Lent, Calls, result, shortAnswer, flagNumber, changeBytes, winnerCall, leavesCall, pathCall, missingCall, changesCall, sequenceCall, countsCall, reportCall};
+ghost use Rattle.refile.specs.Boundary.{Lent, Calls, result, shortAnswer, flagNumber, changeBytes, winnerCall, leavesCall, pathCall, missingCall, putOutCall, putOutSizeCall, changesCall, sequenceCall, countsCall, reportCall};
 
 // What changes and counts write to their answer.
 const CHANGES: usize = 16;
@@ -156,6 +158,30 @@ fn short_changes(replica: &[u8], after: Seq) -> u64
         Next::Nobody => 0,
         Next::At(_, _) => refused(SHORT_ANSWER),
     }
+}
+
+#[no_mangle]
+pub extern "C" fn refile_put_out(replica: &[u8], id: &[u8], out: &mut [u8]) -> u64
+    requires { ⌜ Lent (now replica) ⌝ }
+    ensures { λ r. ⌜ Calls (putOutCall (now (replica .entry)) (now (id .entry)) (now (out .entry))) r (now (out .exit)) ⌝ }
+{
+    let lent = bad_replica(replica);
+    if lent != 0 {
+        return refused(lent);
+    }
+    answered(put_out(replica, id, out))
+}
+
+#[no_mangle]
+pub extern "C" fn refile_put_out_size(replica: &[u8], id: &[u8]) -> u64
+    requires { ⌜ Lent (now replica) ⌝ }
+    ensures { λ r. ⌜ Calls (putOutSizeCall (now (replica .entry)) (now (id .entry))) r tt ⌝ }
+{
+    let lent = bad_replica(replica);
+    if lent != 0 {
+        return refused(lent);
+    }
+    answered(put_out_size(replica, id))
 }
 
 #[no_mangle]
