@@ -8,6 +8,7 @@
 use std::cmp::Ordering;
 use std::fmt::Write as _;
 use std::iter;
+use std::mem;
 use std::ops::Range;
 
 use refile_model::sizes::{
@@ -15,11 +16,13 @@ use refile_model::sizes::{
 };
 use refile_model::{Change, Content, Counts, Refusal, Replica};
 
+use crate::lines::{self, line_bytes, Line, Pen};
+
 const HEAD_BYTES: usize = 16;
 const ENTRY_BYTES: usize = 44;
 const ROW_BYTES: usize = 48;
 
-type Hash = [u8; HASH_BYTES];
+pub type Hash = [u8; HASH_BYTES];
 
 /// The derived order is the one of the rules: by number, then by hash.
 #[derive(Clone, Copy, PartialEq, Eq, PartialOrd, Ord)]
@@ -59,6 +62,8 @@ pub struct Baseline {
     documents: Vec<Document>,
     /// The rows of each document, sorted by revision, in the order of the documents.
     rows: Vec<Row>,
+    /// Room for the path of a line.
+    path: Vec<Hash>,
 }
 
 /// A path write that is well-formed.
@@ -85,11 +90,11 @@ struct Gains {
     touched: usize,
 }
 
-const fn refusal(number: u32) -> Refusal {
+pub const fn refusal(number: u32) -> Refusal {
     Refusal { number, place: 0 }
 }
 
-fn refuse_if(condition: bool, number: u32) -> Result<(), Refusal> {
+pub fn refuse_if(condition: bool, number: u32) -> Result<(), Refusal> {
     if condition {
         Err(refusal(number))
     } else {
@@ -149,6 +154,48 @@ fn winner(rows: &[Row]) -> (&Row, Content) {
         .find(|(_, content)| matches!(content, Content::Live(_)))
         .or(top)
         .expect("a document has a leaf")
+}
+
+/// The paths of all rows of a document, each parent looked for once.
+struct Paths<'a> {
+    rows: &'a [Row],
+    /// The index of each row's parent, where its path is longer than 1.
+    parents: [u16; REVISIONS],
+    /// How many hashes each row's path has.
+    hashes: [u16; REVISIONS],
+}
+
+impl<'a> Paths<'a> {
+    fn of(rows: &'a [Row]) -> Self {
+        let mut paths = Paths {
+            rows,
+            parents: [0; REVISIONS],
+            hashes: [0; REVISIONS],
+        };
+        for at in 0..rows.len() {
+            let parent = ancestry(rows, at).nth(1);
+            paths.parents[at] = parent.unwrap_or(0) as u16;
+            paths.hashes[at] = 1 + parent.map_or(0, |parent| paths.hashes[parent]);
+        }
+        paths
+    }
+
+    /// The hashes of a row's path, newest first.
+    fn hashes(&self, at: usize) -> impl Iterator<Item = &'a Hash> + '_ {
+        let parents = iter::successors(Some(at), |&at| Some(self.parents[at].into()));
+        parents
+            .take(self.hashes[at].into())
+            .map(|at| &self.rows[at].revision.hash)
+    }
+
+    /// How many bytes the lines of the leaves have.
+    fn lines_bytes(&self, id: &[u8]) -> usize {
+        let bytes = |(row, hashes): (&Row, &u16)| {
+            let number = row.revision.number;
+            Some(line_bytes(id, number, (*hashes).into(), row.content?))
+        };
+        self.rows.iter().zip(&self.hashes).filter_map(bytes).sum()
+    }
 }
 
 fn put_leaf(out: &mut [u8; LEAF_BYTES], row: &Row, content: Content) {
@@ -388,6 +435,26 @@ impl Baseline {
         Ok(changed)
     }
 
+    /// Takes in what a line says: refusals 1 to 8.
+    fn take_line(&mut self, line: &Line, path: &[Hash]) -> Result<bool, Refusal> {
+        check_id(line.id)?;
+        refuse_if(line.hashes > PATH_HASHES, 2)?;
+        refuse_if((line.number as usize) < path.len(), 3)?;
+        self.offer(&Offer {
+            id: line.id,
+            number: line.number,
+            path,
+            content: line.content,
+        })
+    }
+
+    /// The rows of a document that can be put out.
+    fn read_writable(&self, id: &[u8]) -> Result<&[Row], Refusal> {
+        let rows = self.read(id)?;
+        refuse_if(!lines::is_writable(id), 43)?;
+        Ok(rows)
+    }
+
     fn image_bytes(&self) -> usize {
         HEAD_BYTES + ENTRY_BYTES * self.documents.len() + ROW_BYTES * self.rows.len()
     }
@@ -443,6 +510,7 @@ impl Replica for Baseline {
             sequence: 0,
             documents: Vec::with_capacity(DOCUMENTS),
             rows: Vec::with_capacity(REVISIONS),
+            path: Vec::with_capacity(PATH_HASHES),
         }
     }
 
@@ -514,6 +582,14 @@ impl Replica for Baseline {
         })
     }
 
+    fn take_in(&mut self, line: &[u8]) -> Result<bool, Refusal> {
+        let mut path = mem::take(&mut self.path);
+        let line = lines::read(line, &mut path);
+        let taken = line.and_then(|line| self.take_line(&line, &path));
+        self.path = path;
+        taken
+    }
+
     fn edit(
         &mut self,
         id: &[u8],
@@ -582,6 +658,25 @@ impl Replica for Baseline {
             *out = rows[at].revision.hash;
         }
         Ok(count as u32)
+    }
+
+    fn put_out(&self, id: &[u8], out: &mut [u8]) -> Result<u32, Refusal> {
+        let rows = self.read_writable(id)?;
+        let paths = Paths::of(rows);
+        let length = paths.lines_bytes(id);
+        let mut pen = Pen::new(front(out, length)?);
+        for (at, row) in rows.iter().enumerate().rev() {
+            let Some(content) = row.content else {
+                continue;
+            };
+            pen.put_line(id, row.revision.number, paths.hashes(at), content);
+        }
+        Ok(length as u32)
+    }
+
+    fn put_out_size(&self, id: &[u8]) -> Result<u32, Refusal> {
+        let paths = Paths::of(self.read_writable(id)?);
+        Ok(paths.lines_bytes(id) as u32)
     }
 
     fn missing(&self, id: &[u8], asked: &[u8], out: &mut [u8]) -> Result<u32, Refusal> {

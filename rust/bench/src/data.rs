@@ -50,6 +50,20 @@ pub fn loaded<R: Replica>(image: &[u8]) -> R {
     replica
 }
 
+/// The line of a write, as it is put out.
+pub fn line(write: &Write) -> &'static [u8] {
+    let replica: Baseline = written(&[*write]);
+    lines(&replica, write.id)
+}
+
+/// A document's lines, as they are put out.
+pub fn lines<R: Replica>(replica: &R, id: &[u8]) -> &'static [u8] {
+    let size = replica.put_out_size(id).expect("the id can be written");
+    let mut lines = vec![0; size as usize];
+    replica.put_out(id, &mut lines).expect("the lines fit");
+    lines.leak()
+}
+
 /// The ids of the documents, in their order.
 pub fn ids() -> Vec<&'static [u8]> {
     let id = |document| format!("ledger/{document:02}").into_bytes();

@@ -166,7 +166,46 @@ impl Bench {
             (Some(1.0), Some(trunk.len())),
             sides!(pull(&trunk, &trunk)),
         );
+        self.line_rows();
         println!();
+    }
+
+    /// The rows of the main table about lines of dumps.
+    fn line_rows(&self) {
+        let ids = data::ids();
+        let full = data::history(PATH_HASHES);
+        let long = [data::line(&full[PATH_HASHES - 1])];
+        let history = data::history(2);
+        let short: Vec<&[u8]> = history.iter().map(data::line).collect();
+        let bytes = short[REVISIONS - 1].len();
+        let bushes: Baseline = data::written(&data::bushes(SHARE - 1).layers.concat());
+        let lines = |id: &&[u8]| data::lines(&bushes, id).len();
+        let room = ids.iter().map(lines).max().expect("some documents");
+        self.row(
+            &format!("a line with a path of {PATH_HASHES} taken into a fresh replica"),
+            (Some(1.0), Some(long[0].len())),
+            sides!(take_in(&[], &long)),
+        );
+        self.row(
+            "that again, unchanged",
+            (None, Some(long[0].len())),
+            sides!(take_in(&long, &long)),
+        );
+        self.row(
+            &format!(
+                "a line of {bytes} bytes that extends one history up to {REVISIONS}, path of 2"
+            ),
+            (Some(1.2), Some(bytes)),
+            sides!(take_in(&[], &short)),
+        );
+        self.row(
+            &format!(
+                "lines put out, {DOCUMENTS} documents of {} leaves",
+                SHARE - 1
+            ),
+            (Some(1.0), Some(room)),
+            sides!(put_out(&data::image(&bushes), &ids, room)),
+        );
     }
 
     /// Measures and prints a row. `bytes` is the size that memcpy and the byte sum are shown for.

@@ -118,6 +118,35 @@ pub fn writes<'a, R: Replica + 'a>(before: &[Write], writes: &'a [Write], over: 
     }
 }
 
+/// Takes in the lines in turn, on a replica that others came before.
+pub fn take_in<'a, R: Replica + 'a>(before: &[&[u8]], lines: &'a [&[u8]]) -> Side<'a> {
+    let make = |replica: &mut R, lines: &[&[u8]]| {
+        for line in lines {
+            black_box(replica.take_in(black_box(line)))
+                .expect("no line of the benchmark is refused");
+        }
+    };
+    let mut former = R::fresh();
+    make(&mut former, before);
+    let mut after = former.clone();
+    make(&mut after, lines);
+    let mut replica = former.clone();
+    Side {
+        outcome: image(&after),
+        round: Box::new(move || {
+            replica.clone_from(&former);
+            timed(lines.len(), || make(&mut replica, lines))
+        }),
+    }
+}
+
+/// The lines of each of the documents in turn, into one buffer.
+pub fn put_out<'a, R: Replica + 'a>(bytes: &[u8], ids: &'a [&[u8]], room: usize) -> Side<'a> {
+    read(bytes, ids, room, |replica: &R, i, out| {
+        replica.put_out(ids[i], out).expect("the lines fit")
+    })
+}
+
 /// Pulls everything into a replica that is set back before each time.
 pub fn pull<'a, R: Replica + 'a>(source: &[u8], target: &[u8]) -> Side<'a> {
     let source: R = loaded(source);

@@ -17,3 +17,14 @@ fn images_sound_and_damaged() {
 fn traps() {
     trials::traps::<Baseline>();
 }
+
+#[test]
+fn texts_by_production() {
+    trials::values::<Baseline>();
+    trials::lines_by_name::<Baseline>();
+}
+
+#[test]
+fn dumps() {
+    trials::dumps::<Baseline>(0..1_000);
+}

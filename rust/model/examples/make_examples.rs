@@ -1,5 +1,5 @@
 //! Makes the images of the folder `examples/` at the top of the repository, each with the report
-//! that the check program must print of it. To make them again, at the top:
+//! that the check program must print of it, and the lines of dumps. To make them again, at the top:
 //!
 //! ```text
 //! cargo run --offline --manifest-path rust/Cargo.toml -p refile-model --example make_examples -- examples
@@ -14,6 +14,7 @@ use refile_model::model::Model;
 use refile_model::offers::{hash, path};
 use refile_model::random::Random;
 use refile_model::sizes::{DOCUMENTS, HASH_BYTES, ID_BYTES, REVISIONS};
+use refile_model::texts::spelled;
 use refile_model::{Content, Counts, Replica};
 use std::path::Path;
 use std::{env, fs, io};
@@ -36,6 +37,9 @@ fn main() -> io::Result<()> {
         let file = |kind: &str| Path::new(&folder).join(format!("{}.{kind}", example.name));
         fs::write(file("image"), &example.image)?;
         fs::write(file("report"), report)?;
+    }
+    for (name, lines) in lines() {
+        fs::write(Path::new(&folder).join(format!("{name}.lines")), lines)?;
     }
     Ok(())
 }
@@ -320,4 +324,58 @@ fn damaged_examples() -> Vec<Example> {
         // The ledger's second row names a parent that isn't there.
         damaged(26, 4, changed(row(4) + 24, 0x31, 0x30)),
     ]
+}
+
+/// Lines, in which `@` and two digits stand for a hash of that first byte: the five worked cases that
+/// leave `lot.image`, as a dump of another store might have them. The fourth is the third once more.
+const DUMP: &str = concat!(
+    r#"{"_id": "lot", "_rev": "1-@20", "label": 7}"#,
+    "\n",
+    r#"{"_rev":"2-@91","_revisions":{"ids":["@91","@20"],"start":2},"#,
+    r#""title":"Lot 14, \"north field\", caf\u00e9","label":8,"_id":"lot"}"#,
+    "\n",
+    "{\t\"_id\" : \"lot\" ,\t\"weights\" : [ 1.5 , -2e3 , { \"label\" : null , \"_id\" : [ ] } ] ,",
+    " \"_rev\" : \"2-@4c\" , \"_revisions\" : { \"start\" : 2 , \"ids\" : [ \"@4c\" , \"@20\" ] } ,",
+    " \"label\" : 9 }\n",
+    r#"{"label":9,"_id":"lot","_rev":"2-@4c","_revisions":{"start":2,"pruned":false,"ids":["@4c","@20"]}}"#,
+    "\n",
+    r#"{"_id":"lot","_rev":"3-@05","_revisions":{"start":3,"ids":["@05","@91","@20"]},"#,
+    r#""_deleted":true,"by":{"name":"Zoë","by":{"name":null}}}"#,
+    "\r\n",
+);
+
+/// A line for each refusal of a line: cut off; a revision in capital letters; a start that is not the
+/// number of the revision; an id with an escape.
+const REFUSED: [(u32, &str); 4] = [
+    (40, r#"{"_id":"lot","_rev":"1-@20","lab"#),
+    (41, r#"{"_id":"lot","_rev":"2-@4C","label":9}"#),
+    (
+        42,
+        r#"{"_id":"lot","_rev":"2-@4c","_revisions":{"start":3,"ids":["@4c","@20"]},"label":9}"#,
+    ),
+    (
+        43,
+        r#"{"_id":"lot 14, caf\u00e9","_rev":"1-@20","label":7}"#,
+    ),
+];
+
+/// The dump, what putting `lot` out gives after it, and the refused lines.
+fn lines() -> Vec<(String, Vec<u8>)> {
+    let dump = spelled(DUMP.as_bytes());
+    let mut replica = Model::fresh();
+    let taken = dump.split_inclusive(|&byte| byte == b'\n');
+    let taken: Vec<_> = taken.map(|line| replica.take_in(line)).collect();
+    assert_eq!(taken, [true, true, true, false, true].map(Ok));
+    assert_eq!(save(&replica), save(&lot()));
+    let size = replica.put_out_size(b"lot").expect("a plain id");
+    let mut put_out = vec![0; size as usize];
+    assert_eq!(replica.put_out(b"lot", &mut put_out), Ok(size));
+    let mut lines = vec![("dump".to_string(), dump), ("lot".to_string(), put_out)];
+    for (number, line) in REFUSED {
+        let line = [spelled(line.as_bytes()), b"\n".to_vec()].concat();
+        let refused = replica.take_in(&line).expect_err("a line at fault");
+        assert_eq!((refused.number, refused.place), (number, 0));
+        lines.push((format!("refused-{number}"), line));
+    }
+    lines
 }

@@ -131,6 +131,7 @@ impl<R: Replica> Replicas for [R; REPLICAS] {
             } => self[*at]
                 .write(id, *number, path, *content)
                 .map(Answer::Changed),
+            Step::TakeIn { at, line } => self[*at].take_in(line).map(Answer::Changed),
             Step::Edit {
                 at,
                 id,
@@ -149,6 +150,8 @@ impl<R: Replica> Replicas for [R; REPLICAS] {
                 hash,
                 ..
             } => self[*at].path(id, *number, *hash, out).map(Answer::Value),
+            Step::PutOut { at, id, .. } => self[*at].put_out(id, out).map(Answer::Value),
+            Step::PutOutSize { at, id } => self[*at].put_out_size(id).map(Answer::Value),
             Step::Missing { at, id, asked, .. } => {
                 self[*at].missing(id, asked, out).map(Answer::Value)
             }

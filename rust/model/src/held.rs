@@ -145,3 +145,22 @@ pub enum Base {
     NewDocument,
     Parent(Revision),
 }
+
+// Documents as the protocol writes them
+
+/// What the members of a line say: "`_id`, `_rev`, `_revisions` with `start` and `ids`, `_deleted`,
+/// and our member `label`".
+#[derive(Clone, PartialEq, Eq, Debug)]
+pub struct Line {
+    pub id: Vec<u8>,
+    pub rev: Revision,
+    pub revisions: Option<Revisions>,
+    pub content: Content,
+}
+
+/// "`_revisions` with `start` and `ids`", the ids newest first.
+#[derive(Clone, PartialEq, Eq, Debug)]
+pub struct Revisions {
+    pub start: u32,
+    pub ids: Vec<Hash>,
+}

@@ -8,7 +8,10 @@ pub mod faults;
 pub mod harness;
 pub mod held;
 pub mod images;
+pub mod json;
 pub mod layout;
+pub mod lines;
+pub mod misreadings;
 pub mod model;
 pub mod offers;
 pub mod random;
@@ -17,6 +20,7 @@ pub mod scenario;
 pub mod sizes;
 pub mod steps;
 pub mod text;
+pub mod texts;
 pub mod trials;
 
 /// What a leaf holds: a live body with its label, or a deletion.
@@ -70,6 +74,9 @@ pub trait Replica: Clone {
         content: Content,
     ) -> Result<bool, Refusal>;
 
+    /// Takes in a line of a dump, and answers whether it changed anything.
+    fn take_in(&mut self, line: &[u8]) -> Result<bool, Refusal>;
+
     /// Answers the new revision's number.
     fn edit(
         &mut self,
@@ -87,6 +94,12 @@ pub trait Replica: Clone {
 
     /// Answers the count of hashes.
     fn path(&self, id: &[u8], number: u32, hash: [u8; 16], out: &mut [u8]) -> Result<u32, Refusal>;
+
+    /// Writes the document's leaves, a line each, and answers how many bytes were written.
+    fn put_out(&self, id: &[u8], out: &mut [u8]) -> Result<u32, Refusal>;
+
+    /// Answers how many bytes putting out would write.
+    fn put_out_size(&self, id: &[u8]) -> Result<u32, Refusal>;
 
     /// Answers how many bytes were written.
     fn missing(&self, id: &[u8], asked: &[u8], out: &mut [u8]) -> Result<u32, Refusal>;

@@ -3,7 +3,7 @@
 //! The sections are those of the document, whose words stand in quotes above what renders them. The
 //! rules that decide, each refusal's condition among them, are the functions of [`Rules`].
 
-use crate::held::{Base, Document, Edit, Given, Hash, Held, Leaf, Revision};
+use crate::held::{Base, Document, Edit, Given, Hash, Held, Leaf, Line, Revision};
 use crate::layout::{image_bytes, Entry, Head, Image, Row, IMAGE_MOST};
 use crate::rules::{House, Rules};
 use crate::sizes::{ASKED_BYTES, DOCUMENTS, HASH_BYTES, ID_BYTES, LEAF_BYTES};
@@ -282,6 +282,92 @@ impl Held {
             deleted: rules.winner(&leaves).content == Content::Deleted,
         }))
     }
+}
+
+// Documents as the protocol writes them
+
+impl Held {
+    /// "Take these in as path writes": 40 to 43 are "checked in that order, before 1 to 8".
+    fn take_in(&mut self, rules: &dyn Rules, line: &[u8]) -> Result<bool, Refusal> {
+        let members = rules.members(line);
+        let members = members.as_deref();
+        let said = members.and_then(|members| rules.line(members));
+        let said_so = |holds: &dyn Fn(&Line) -> bool| said.as_ref().is_some_and(holds);
+        first_refusal(rules.line_order(), |number| match number {
+            40 => members.is_none(),
+            41 => rules.bad_member(line, members),
+            42 => said_so(&|said| rules.revisions_differ(said)),
+            43 => said_so(&|said| rules.unwritable(&said.id)),
+            1 => said_so(&|said| rules.bad_id(&said.id)),
+            _ => unreachable!("a line checks 40 to 43, and a wrong model 1 among them"),
+        })?;
+        let said = said.expect("40 and 41 were tried");
+        let given = Given {
+            id: &said.id,
+            number: said.rev.number,
+            path: &rules.path_of(&said).concat(),
+            content: said.content,
+        };
+        self.write(rules, &given)
+    }
+
+    /// "Putting out checks 1, 12, 43, 14." "put a document's leaves out so, a line each".
+    fn put_out(&self, rules: &dyn Rules, id: &[u8], out: &mut [u8]) -> Result<u32, Refusal> {
+        let answer = self.lines(rules, id);
+        let refused = first_refusal(rules.put_out_order(), |number| match number {
+            14 => rules.short(out, answer.as_deref()),
+            other => self.put_out_refuses(rules, id, other),
+        });
+        let answer = answer.unwrap_or_default();
+        lend(rules, refused, &answer, out)?;
+        Ok(answer.len() as u32)
+    }
+
+    /// How many bytes putting out would write. No buffer is lent, so that 14 has nothing to refuse.
+    fn put_out_size(&self, rules: &dyn Rules, id: &[u8]) -> Result<u32, Refusal> {
+        first_refusal(rules.put_out_order(), |number| match number {
+            14 => false,
+            other => self.put_out_refuses(rules, id, other),
+        })?;
+        Ok(self.lines(rules, id).unwrap_or_default().len() as u32)
+    }
+
+    fn put_out_refuses(&self, rules: &dyn Rules, id: &[u8], number: u32) -> bool {
+        match number {
+            1 => rules.bad_id(id),
+            12 => rules.no_document(self, id),
+            43 => rules.unwritable(id),
+            _ => unreachable!("putting out checks 1, 12, 43 and 14"),
+        }
+    }
+
+    /// The lines of a document's leaves, if there is the document.
+    fn lines(&self, rules: &dyn Rules, id: &[u8]) -> Option<Vec<u8>> {
+        let document = rules.document(self, id)?;
+        let leaves = rules.put_out_leaves(document).into_iter();
+        let lines = leaves.map(|leaf| {
+            let ids = rules.put_out_ids(document, leaf);
+            line_of(rules, id, leaf, ids)
+        });
+        Some(rules.put_out_lines(lines.collect()))
+    }
+}
+
+/// A leaf's line: "`_id`, `_rev`, `_revisions` with `start` and `ids`, `_deleted`, and our member
+/// `label`, a JSON number", "without spaces, in the order just named".
+fn line_of(rules: &dyn Rules, id: &[u8], leaf: Leaf, ids: Option<Vec<Hash>>) -> Vec<u8> {
+    let Revision { number, hash } = leaf.revision;
+    let mut after_id = format!("\",\"_rev\":\"{number}-{}\"", hex(&hash));
+    if let Some(ids) = ids {
+        let ids: Vec<String> = ids.iter().map(|id| format!("\"{}\"", hex(id))).collect();
+        let ids = ids.join(",");
+        after_id += &format!(",\"_revisions\":{{\"start\":{number},\"ids\":[{ids}]}}");
+    }
+    after_id += &match leaf.content {
+        Content::Deleted => ",\"_deleted\":true}".to_string(),
+        Content::Live(label) => format!(",\"label\":{}}}", rules.put_out_label(label)),
+    };
+    [b"{\"_id\":\"", id, after_id.as_bytes()].concat()
 }
 
 // Pull
@@ -599,6 +685,10 @@ impl<R: Rules + Clone + Default> Replica for ModelOf<R> {
         self.held.write(&self.rules, &given)
     }
 
+    fn take_in(&mut self, line: &[u8]) -> Result<bool, Refusal> {
+        self.held.take_in(&self.rules, line)
+    }
+
     fn edit(
         &mut self,
         id: &[u8],
@@ -626,6 +716,14 @@ impl<R: Rules + Clone + Default> Replica for ModelOf<R> {
     fn path(&self, id: &[u8], number: u32, hash: Hash, out: &mut [u8]) -> Result<u32, Refusal> {
         let revision = Revision { number, hash };
         self.held.path(&self.rules, id, revision, out)
+    }
+
+    fn put_out(&self, id: &[u8], out: &mut [u8]) -> Result<u32, Refusal> {
+        self.held.put_out(&self.rules, id, out)
+    }
+
+    fn put_out_size(&self, id: &[u8]) -> Result<u32, Refusal> {
+        self.held.put_out_size(&self.rules, id)
     }
 
     fn missing(&self, id: &[u8], asked: &[u8], out: &mut [u8]) -> Result<u32, Refusal> {

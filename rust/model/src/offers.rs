@@ -44,7 +44,8 @@ fn low_hash(last: u8) -> Hash {
     hash
 }
 
-/// Ids that are prefixes of each other, that only their length tells apart, and the longest ones.
+/// Ids that are prefixes of each other, that only their length tells apart, and the longest ones; some
+/// of them no line can have.
 fn all_ids() -> Vec<Vec<u8>> {
     vec![
         b"lot".to_vec(),
@@ -56,6 +57,10 @@ fn all_ids() -> Vec<Vec<u8>> {
         b"\0".to_vec(),
         vec![0; ID_BYTES],
         vec![0xff],
+        b"a b~".to_vec(),
+        b"a\"b".to_vec(),
+        b"a\\".to_vec(),
+        b"a\x7f".to_vec(),
         vec![b'z'; ID_BYTES - 1],
         vec![b'z'; ID_BYTES],
     ]
@@ -85,7 +90,7 @@ fn all_hashes() -> Vec<Hash> {
 /// Numbers after which the count of digits or of bytes grows, or the numbers end.
 const BASES: [u32; 10] = [0, 0, 0, 1, 7, 97, 253, 65_533, 16_777_213, 4_294_967_291];
 
-const LABELS: [u64; 6] = [0, 1, 7, 8, 1 << 32, u64::MAX];
+const LABELS: [u64; 7] = [0, 1, 7, 8, 1 << 32, (1 << 53) + 1, u64::MAX];
 
 impl Alphabet {
     pub fn new(random: &mut Random) -> Self {

@@ -3,9 +3,12 @@
 //! They stand in a trait so that a wrong model can be the right one with one rule replaced. The
 //! right rule is always the default.
 
-use crate::held::{Base, Document, Edit, Given, Hash, Held, Leaf, Revision};
+use crate::held::{Base, Document, Edit, Given, Hash, Held, Leaf, Line, Revision, Revisions};
+use crate::json::{self, Member, Value};
 use crate::layout::{image_bytes, Entry, Head, Image, Row, HEAD_BYTES};
-use crate::sizes::{ASKED_BYTES, DOCUMENTS, HASH_BYTES, ID_BYTES, PATH_HASHES, REVISIONS};
+use crate::sizes::{
+    ASKED_BYTES, DOCUMENTS, HASH_BYTES, ID_BYTES, LINE_DEPTH, PATH_HASHES, REVISIONS,
+};
 use crate::{Content, Refusal};
 use std::cmp::Ordering;
 use std::collections::BTreeSet;
@@ -305,6 +308,189 @@ pub trait Rules {
     /// "the document with the lowest own sequence above s".
     fn is_after(&self, own_sequence: u32, s: u32) -> bool {
         own_sequence > s
+    }
+
+    // Documents as the protocol writes them
+
+    /// "Refusals: 40 [..], 41 [..], 42 [..], 43 [..]; checked in that order, before 1 to 8."
+    fn line_order(&self) -> &'static [u32] {
+        &[40, 41, 42, 43]
+    }
+
+    /// "Putting out checks 1, 12, 43, 14."
+    fn put_out_order(&self) -> &'static [u32] {
+        &[1, 12, 43, 14]
+    }
+
+    /// See [`LINE_DEPTH`].
+    fn most_depth(&self) -> usize {
+        LINE_DEPTH
+    }
+
+    /// The text's value, if it is one "UTF-8 JSON [..] (RFC 8259)" and not "too deep".
+    fn value(&self, line: &[u8]) -> Option<Value> {
+        json::text(line, self.most_depth())
+    }
+
+    /// 40: "not one UTF-8 JSON object (RFC 8259) or too deep". The members of one that is.
+    fn members(&self, line: &[u8]) -> Option<Vec<Member>> {
+        match self.value(line)? {
+            Value::Object(members) => Some(members),
+            _ => None,
+        }
+    }
+
+    /// The values of the members of a name. "a member name with an escape is unknown", so names are
+    /// compared as written.
+    fn named<'a>(&self, members: &'a [Member], name: &str) -> Vec<&'a Value> {
+        let named = members.iter().filter(|m| m.name == name.as_bytes());
+        named.map(|member| &member.value).collect()
+    }
+
+    /// 41: "member absent, repeated or of the wrong form". The members are none where 40 is due.
+    fn bad_member(&self, _line: &[u8], members: Option<&[Member]>) -> bool {
+        members.is_some_and(|members| self.line(members).is_none())
+    }
+
+    /// What the members say. None if one is "absent, repeated or of the wrong form"; "Unknown members
+    /// are passed over whatever they hold".
+    fn line(&self, members: &[Member]) -> Option<Line> {
+        let [Value::String(id)] = self.named(members, "_id")[..] else {
+            return None;
+        };
+        let [Value::String(rev)] = self.named(members, "_rev")[..] else {
+            return None;
+        };
+        let revisions = match self.named(members, "_revisions")[..] {
+            [] => None,
+            [Value::Object(inside)] => Some(self.revisions_of(inside)?),
+            _ => return None,
+        };
+        let deleted = self.named(members, "_deleted");
+        let label = self.named(members, "label");
+        Some(Line {
+            id: self.id_of(id),
+            rev: self.rev(rev)?,
+            revisions,
+            content: self.content_of(&deleted, &label)?,
+        })
+    }
+
+    /// "Ids put out or taken in are, as written": no escape is decoded.
+    fn id_of(&self, written: &[u8]) -> Vec<u8> {
+        written.to_vec()
+    }
+
+    /// A revision as `_rev` has it: its number, a hyphen, its hash.
+    fn rev(&self, written: &[u8]) -> Option<Revision> {
+        let hyphen = written.iter().position(|&byte| byte == b'-')?;
+        let (number, hash) = (&written[..hyphen], &written[hyphen + 1..]);
+        Some(Revision {
+            number: self.number(number, u32::MAX.into())? as u32,
+            hash: self.hash_of(hash)?,
+        })
+    }
+
+    /// "`_revisions` with `start` and `ids`". Other members there are passed over.
+    fn revisions_of(&self, members: &[Member]) -> Option<Revisions> {
+        let [Value::Number(start)] = self.named(members, "start")[..] else {
+            return None;
+        };
+        let [Value::Array(ids)] = self.named(members, "ids")[..] else {
+            return None;
+        };
+        let ids = ids.iter().map(|id| match id {
+            Value::String(digits) => self.hash_of(digits),
+            _ => None,
+        });
+        Some(Revisions {
+            start: self.number(start, u32::MAX.into())? as u32,
+            ids: ids.collect::<Option<Vec<Hash>>>()?,
+        })
+    }
+
+    /// "Every line has `_deleted`, always true, or `label`; both is wrong form."
+    fn content_of(&self, deleted: &[&Value], label: &[&Value]) -> Option<Content> {
+        match (deleted, label) {
+            ([Value::True], []) => Some(Content::Deleted),
+            ([], [Value::Number(label)]) => Some(Content::Live(self.number(label, u64::MAX)?)),
+            _ => None,
+        }
+    }
+
+    /// "numbers that exceed their field, aren't bare digits or lead with a spare zero [..] are wrong
+    /// form". The field holds the numbers up to the most.
+    fn number(&self, written: &[u8], most: u64) -> Option<u64> {
+        let bare = !written.is_empty() && written.iter().all(u8::is_ascii_digit);
+        let spare_zero = written.len() > 1 && written[0] == b'0';
+        if !bare || spare_zero {
+            return None;
+        }
+        let number = written.iter().try_fold(0u64, |number, digit| {
+            let digit = u64::from(digit - b'0');
+            number.checked_mul(10)?.checked_add(digit)
+        });
+        number.filter(|&number| number <= most)
+    }
+
+    /// "Hashes are 32 lower-case hex digits".
+    fn hash_of(&self, written: &[u8]) -> Option<Hash> {
+        let digits: &[u8; 2 * HASH_BYTES] = written.try_into().ok()?;
+        let mut hash = [0; HASH_BYTES];
+        for (index, digit) in digits.iter().enumerate() {
+            let value = b"0123456789abcdef"
+                .iter()
+                .position(|known| known == digit)?;
+            hash[index / 2] = hash[index / 2] << 4 | value as u8;
+        }
+        Some(hash)
+    }
+
+    /// 42: "`_rev` and `_revisions` differ or no ids".
+    fn revisions_differ(&self, line: &Line) -> bool {
+        line.revisions.as_ref().is_some_and(|revisions| {
+            revisions.start != line.rev.number || revisions.ids.first() != Some(&line.rev.hash)
+        })
+    }
+
+    /// 43: "id can't be written". "Ids put out or taken in are, as written, bytes 20 to 7e hex with
+    /// no quote or backslash".
+    fn unwritable(&self, id: &[u8]) -> bool {
+        id.iter()
+            .any(|byte| !(0x20..=0x7e).contains(byte) || b"\"\\".contains(byte))
+    }
+
+    /// "Without `_revisions` the path is the one revision of `_rev`."
+    fn path_of(&self, line: &Line) -> Vec<Hash> {
+        match &line.revisions {
+            Some(revisions) => revisions.ids.clone(),
+            None => vec![line.rev.hash],
+        }
+    }
+
+    /// "put a document's leaves out so, a line each, highest first".
+    fn put_out_leaves(&self, document: &Document) -> Vec<Leaf> {
+        let mut leaves = document.leaves();
+        leaves.sort_by(|a, b| self.order(b.revision, a.revision));
+        leaves
+    }
+
+    /// The ids of `_revisions`, which is put out for every leaf: its whole known path, newest first.
+    fn put_out_ids(&self, document: &Document, leaf: Leaf) -> Option<Vec<Hash>> {
+        Some(document.path(leaf.revision))
+    }
+
+    /// The digits of a label.
+    fn put_out_label(&self, label: u64) -> String {
+        label.to_string()
+    }
+
+    /// "a line each": every line ends with a newline, the last too.
+    fn put_out_lines(&self, lines: Vec<Vec<u8>>) -> Vec<u8> {
+        lines
+            .into_iter()
+            .flat_map(|line| [line, b"\n".to_vec()].concat())
+            .collect()
     }
 
     // Pull

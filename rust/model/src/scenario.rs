@@ -3,10 +3,13 @@
 use crate::harness::apply;
 use crate::held::Revision;
 use crate::images;
+use crate::lines;
 use crate::model::Model;
 use crate::offers::{content, some_document, Alphabet};
 use crate::random::Random;
-use crate::sizes::{ASKED_BYTES, DOCUMENTS, HASH_BYTES, ID_BYTES, LEAF_BYTES, PATH_HASHES};
+use crate::sizes::{
+    ASKED_BYTES, DOCUMENTS, HASH_BYTES, ID_BYTES, LEAF_BYTES, PATH_HASHES, REVISIONS,
+};
 use crate::steps::{Scenario, Step, REPLICAS};
 use crate::{Content, Replica};
 
@@ -36,6 +39,69 @@ pub fn scenario(seed: u64) -> Scenario {
         steps: writer.steps,
     }
 }
+
+/// The lines of a dump of a seed, sound, spoiled and damaged: so many, each taken into a replica, and
+/// what is put out in between.
+pub fn dump(seed: u64) -> Scenario {
+    let mut writer = Writer::new(seed);
+    writer.hostile = 45;
+    for _ in 0..DUMP_LINES {
+        let at = writer.replica();
+        let step = writer.take_in(at);
+        writer.push(step);
+        if writer.random.percent(10) {
+            let step = writer.put_out(at);
+            writer.push(step);
+        }
+    }
+    Scenario {
+        steps: writer.steps,
+    }
+}
+
+/// The document that has the most to put out, half of the room as leaves on a trunk of the other half,
+/// put out into buffers about its size, and taken into another replica line by line.
+pub fn widest() -> Scenario {
+    let id = b"lot".to_vec();
+    let number = (REVISIONS / 2) as u32;
+    let trunk = |of: u32| [&of.to_be_bytes()[..], &[0; HASH_BYTES - 4]].concat();
+    let trunk: Vec<u8> = (1..=number).rev().flat_map(trunk).collect();
+    let mut wide = Model::fresh();
+    for leaf in 0..number {
+        let hash = [&[0xff; HASH_BYTES - 4][..], &leaf.to_be_bytes()].concat();
+        let path = [&hash[..], &trunk].concat();
+        let written = wide.write(
+            &id,
+            number + 1,
+            &path,
+            Content::Live(u64::MAX - u64::from(leaf)),
+        );
+        written.expect("there is room");
+    }
+    let mut steps = vec![
+        Step::Load {
+            at: 0,
+            image: images::save(&wide),
+        },
+        Step::PutOutSize {
+            at: 0,
+            id: id.clone(),
+        },
+    ];
+    let lines = put_out(&wide, &id);
+    for room in [lines.len() - 1, lines.len(), lines.len() + 1] {
+        let id = id.clone();
+        steps.push(Step::PutOut { at: 0, id, room });
+    }
+    for line in lines.split_inclusive(|&byte| byte == b'\n') {
+        let line = line.to_vec();
+        steps.push(Step::TakeIn { at: 1, line });
+    }
+    Scenario { steps }
+}
+
+/// How many lines each dump has.
+pub const DUMP_LINES: usize = 10;
 
 /// Writes a scenario, and runs it on the model while it does, so that the next step can be about
 /// what the replicas hold.
@@ -140,13 +206,15 @@ impl Writer {
     fn step(&mut self) -> Step {
         let at = self.replica();
         match self.random.below(100) {
-            0..=29 => self.write(at),
-            30..=46 => self.edit(at),
+            0..=23 => self.write(at),
+            24..=33 => self.take_in(at),
+            34..=46 => self.edit(at),
             47..=57 => self.pull(at),
             58..=62 => self.winner(at),
             63..=68 => self.leaves(at),
-            69..=74 => self.path(at),
-            75..=80 => self.missing(at),
+            69..=72 => self.path(at),
+            73..=76 => self.put_out(at),
+            77..=80 => self.missing(at),
             81..=86 => self.changes(at),
             87..=89 => self.save(at),
             90..=92 => Step::Reload {
@@ -259,6 +327,53 @@ impl Writer {
             number,
             path,
             content: offer.content,
+        }
+    }
+
+    /// A line that says a path, or that one of the replicas puts out, and perhaps is spoiled or damaged.
+    fn take_in(&mut self, at: usize) -> Step {
+        let line = match self.random.below(5) {
+            0 => self.line_put_out().unwrap_or_default(),
+            _ => {
+                let mut offer = self.alphabet.offer(&mut self.random, &self.replicas);
+                if self.random.percent(70) {
+                    offer.id = lines::plain(&offer.id);
+                }
+                match self.random.percent(self.hostile) {
+                    true => lines::spoiled(&mut self.random, &offer),
+                    false => lines::sound(&mut self.random, &offer),
+                }
+            }
+        };
+        let line = match self.random.percent(self.hostile / 2) {
+            true => lines::damaged(&mut self.random, &line),
+            false => line,
+        };
+        Step::TakeIn { at, line }
+    }
+
+    /// One of the lines of a document that some replica puts out.
+    fn line_put_out(&mut self) -> Option<Vec<u8>> {
+        let (id, _) = some_document(&mut self.random, &self.replicas)?;
+        let replicas = self.replicas.iter();
+        let lines: Vec<u8> = replicas.flat_map(|replica| put_out(replica, id)).collect();
+        let lines: Vec<&[u8]> = lines.split_inclusive(|&byte| byte == b'\n').collect();
+        match lines.is_empty() {
+            true => None,
+            false => Some(self.random.pick(&lines).to_vec()),
+        }
+    }
+
+    fn put_out(&mut self, at: usize) -> Step {
+        let id = self.id(at);
+        if self.random.percent(30) {
+            return Step::PutOutSize { at, id };
+        }
+        let size = put_out(&self.replicas[at], &id).len();
+        Step::PutOut {
+            at,
+            id,
+            room: self.room(size),
         }
     }
 
@@ -392,5 +507,15 @@ impl Writer {
             image,
             room: self.room(length),
         }
+    }
+}
+
+/// A document's lines; none where they are refused.
+fn put_out(replica: &Model, id: &[u8]) -> Vec<u8> {
+    let size = replica.put_out_size(id).unwrap_or_default();
+    let mut out = vec![0; size as usize];
+    match replica.put_out(id, &mut out) {
+        Ok(_) => out,
+        Err(_) => Vec::new(),
     }
 }

@@ -25,3 +25,6 @@ pub const LEAF_BYTES: usize = 4 + HASH_BYTES + 1 + 8;
 
 /// "20 bytes for each revision, a number of four bytes, big-endian, and a hash".
 pub const ASKED_BYTES: usize = 4 + HASH_BYTES;
+
+/// "to depth 16, the line being 1".
+pub const LINE_DEPTH: usize = 16;

@@ -26,6 +26,10 @@ pub enum Step {
         path: Vec<u8>,
         content: Content,
     },
+    TakeIn {
+        at: usize,
+        line: Vec<u8>,
+    },
     Edit {
         at: usize,
         id: Vec<u8>,
@@ -49,6 +53,15 @@ pub enum Step {
         number: u32,
         hash: Hash,
         room: usize,
+    },
+    PutOut {
+        at: usize,
+        id: Vec<u8>,
+        room: usize,
+    },
+    PutOutSize {
+        at: usize,
+        id: Vec<u8>,
     },
     Missing {
         at: usize,
@@ -91,6 +104,7 @@ impl Step {
             | Step::Winner { room, .. }
             | Step::Leaves { room, .. }
             | Step::Path { room, .. }
+            | Step::PutOut { room, .. }
             | Step::Missing { room, .. }
             | Step::Changes { room, .. }
             | Step::Report { room, .. } => Some(*room),

@@ -68,6 +68,7 @@ impl fmt::Display for Step {
                 word(path),
                 words(*content)
             ),
+            Step::TakeIn { at, line } => write!(f, "take_in {at} {}", word(line)),
             Step::Edit {
                 at,
                 id,
@@ -101,6 +102,8 @@ impl fmt::Display for Step {
                 word(id),
                 hex(hash)
             ),
+            Step::PutOut { at, id, room } => write!(f, "put_out {at} {} room {room}", word(id)),
+            Step::PutOutSize { at, id } => write!(f, "put_out_size {at} {}", word(id)),
             Step::Missing {
                 at,
                 id,
@@ -162,6 +165,10 @@ impl FromStr for Step {
                 path: words.bytes()?,
                 content: words.content()?,
             },
+            "take_in" => Step::TakeIn {
+                at: words.replica()?,
+                line: words.bytes()?,
+            },
             "edit" => Step::Edit {
                 at: words.replica()?,
                 id: words.bytes()?,
@@ -185,6 +192,15 @@ impl FromStr for Step {
                 number: words.number()?,
                 hash: words.hash()?,
                 room: words.room()?,
+            },
+            "put_out" => Step::PutOut {
+                at: words.replica()?,
+                id: words.bytes()?,
+                room: words.room()?,
+            },
+            "put_out_size" => Step::PutOutSize {
+                at: words.replica()?,
+                id: words.bytes()?,
             },
             "missing" => Step::Missing {
                 at: words.replica()?,

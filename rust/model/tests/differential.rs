@@ -4,14 +4,15 @@
 use refile_model::harness::{apply, Answer};
 use refile_model::images::{image, save};
 use refile_model::model::Model;
-use refile_model::scenario::scenario;
+use refile_model::scenario::{dump, scenario, DUMP_LINES};
 use refile_model::steps::{Scenario, Step, REPLICAS};
 use refile_model::trials;
 use refile_model::{Change, Content, Counts, Refusal, Replica};
-use std::collections::BTreeSet;
+use std::collections::{BTreeMap, BTreeSet};
 
 const SCENARIOS: u64 = 1_000;
 const IMAGES: u64 = 10_000;
+const DUMPS: u64 = 2_000;
 
 /// The model, saved and loaded after every call that may alter it.
 #[derive(Clone)]
@@ -61,6 +62,12 @@ impl Replica for Reloaded {
         written
     }
 
+    fn take_in(&mut self, line: &[u8]) -> Result<bool, Refusal> {
+        let taken = self.0.take_in(line);
+        self.reload();
+        taken
+    }
+
     fn edit(
         &mut self,
         id: &[u8],
@@ -83,6 +90,14 @@ impl Replica for Reloaded {
 
     fn path(&self, id: &[u8], number: u32, hash: [u8; 16], out: &mut [u8]) -> Result<u32, Refusal> {
         self.0.path(id, number, hash, out)
+    }
+
+    fn put_out(&self, id: &[u8], out: &mut [u8]) -> Result<u32, Refusal> {
+        self.0.put_out(id, out)
+    }
+
+    fn put_out_size(&self, id: &[u8]) -> Result<u32, Refusal> {
+        self.0.put_out_size(id)
     }
 
     fn missing(&self, id: &[u8], asked: &[u8], out: &mut [u8]) -> Result<u32, Refusal> {
@@ -124,6 +139,45 @@ fn a_saved_and_loaded_replica_answers_the_same_about_images() {
 }
 
 #[test]
+fn a_saved_and_loaded_replica_answers_the_same_about_dumps() {
+    trials::dumps::<Reloaded>(0..DUMPS);
+}
+
+/// How many lines of so many dumps are refused by each number, and how many are taken (0).
+fn tally(dumps: u64) -> BTreeMap<u32, usize> {
+    let mut tally = BTreeMap::new();
+    for seed in 0..dumps {
+        let mut replicas: [Model; REPLICAS] = std::array::from_fn(|_| Model::fresh());
+        for step in dump(seed).steps {
+            let answer = apply(&mut replicas, &step).answer;
+            if let Step::TakeIn { .. } = step {
+                let number = match answer {
+                    Answer::Refused(refusal) => refusal.number,
+                    _ => 0,
+                };
+                *tally.entry(number).or_default() += 1;
+            }
+        }
+    }
+    tally
+}
+
+#[test]
+fn dumps_reach_every_refusal_of_a_line() {
+    let tally = tally(DUMPS);
+    let lines: usize = tally.values().sum();
+    assert_eq!(lines, DUMPS as usize * DUMP_LINES);
+    println!("{tally:?}");
+    for (number, percent) in [(0, 20), (40, 20), (41, 10), (42, 1), (43, 1)] {
+        let reached = tally.get(&number).copied().unwrap_or_default();
+        assert!(
+            100 * reached >= percent * lines,
+            "{reached} of {lines} are {number}"
+        );
+    }
+}
+
+#[test]
 fn a_printed_scenario_is_read_back() {
     for seed in 0..200 {
         let scenario = scenario(seed);
@@ -161,21 +215,30 @@ fn call(step: &Step) -> String {
 
 /// Every refusal that a call has, and every other answer of note, as `call: answer`.
 fn possible() -> BTreeSet<String> {
-    let refusals: [(&str, &[u32]); 10] = [
+    let refusals: [(&str, &[u32]); 13] = [
         ("load", &[20, 21, 22, 23, 24, 25, 26]),
         ("save", &[14]),
         ("write", &[1, 2, 3, 4, 5, 6, 7, 8]),
+        ("take_in", &[1, 2, 3, 4, 5, 6, 7, 8, 40, 41, 42, 43]),
         ("edit", &[1, 6, 7, 8, 9, 10, 11]),
         ("winner", &[1, 12, 14]),
         ("leaves", &[1, 12, 14]),
         ("path", &[1, 12, 13, 14]),
+        ("put_out", &[1, 12, 14, 43]),
+        ("put_out_size", &[1, 12, 43]),
         ("missing", &[1, 14, 15]),
         ("changes", &[14]),
         ("report", &[14]),
     ];
-    let mut possible: BTreeSet<String> = ["write: changed", "write: unchanged", "changes: no more"]
-        .map(String::from)
-        .into();
+    let mut possible: BTreeSet<String> = [
+        "write: changed",
+        "write: unchanged",
+        "take_in: changed",
+        "take_in: unchanged",
+        "changes: no more",
+    ]
+    .map(String::from)
+    .into();
     for (call, numbers) in refusals {
         possible.extend(
             numbers
@@ -184,8 +247,22 @@ fn possible() -> BTreeSet<String> {
         );
     }
     for call in [
-        "fresh", "load", "save", "edit", "winner", "leaves", "path", "missing", "changes", "pull",
-        "reload", "sequence", "counts", "report",
+        "fresh",
+        "load",
+        "save",
+        "edit",
+        "winner",
+        "leaves",
+        "path",
+        "put_out",
+        "put_out_size",
+        "missing",
+        "changes",
+        "pull",
+        "reload",
+        "sequence",
+        "counts",
+        "report",
     ] {
         possible.insert(format!("{call}: accepted"));
     }

@@ -2,8 +2,13 @@
 
 use refile_model::harness::{apply, buffer, Answer};
 use refile_model::held::{Document, Held, Revision};
+use refile_model::json::{self, Member, Value};
+use refile_model::lines;
 use refile_model::model::Model;
-use refile_model::scenario::scenario;
+use refile_model::offers::Alphabet;
+use refile_model::random::Random;
+use refile_model::scenario::{dump, scenario};
+use refile_model::sizes::LINE_DEPTH;
 use refile_model::steps::{Step, REPLICAS};
 use refile_model::{Content, Replica};
 
@@ -40,6 +45,7 @@ fn a_refusal_and_a_read_alter_no_replica() {
             Step::Fresh { .. }
                 | Step::Load { .. }
                 | Step::Write { .. }
+                | Step::TakeIn { .. }
                 | Step::Edit { .. }
                 | Step::Pull { .. }
                 | Step::Reload { .. }
@@ -217,4 +223,141 @@ fn replicas_that_pull_without_refusal_agree() {
         }
     }
     assert!(agreed > 20, "{agreed} pulled without refusal");
+}
+
+/// A document's lines, if its id can be written.
+fn put_out(replica: &Model, id: &[u8]) -> Option<Vec<u8>> {
+    let size = replica.put_out_size(id).ok()?;
+    let mut out = vec![0; size as usize];
+    assert_eq!(replica.put_out(id, &mut out), Ok(size));
+    Some(out)
+}
+
+fn each_line(lines: &[u8]) -> impl Iterator<Item = &[u8]> {
+    lines.split_inclusive(|&byte| byte == b'\n')
+}
+
+/// "What we put out comes back as the same write": into a fresh replica it brings exactly what was held
+/// of the documents whose id can be written, and into the replica itself nothing.
+#[test]
+fn what_is_put_out_comes_back() {
+    let mut documents = 0;
+    for seed in 0..SCENARIOS {
+        let mut replicas = fresh();
+        for step in [scenario(seed).steps, dump(seed).steps].concat() {
+            apply(&mut replicas, &step);
+        }
+        for mut replica in replicas {
+            let before = replica.held().clone();
+            let mut held = before.without_sequences();
+            let mut copy = Model::fresh();
+            for id in before.documents.keys() {
+                let Some(lines) = put_out(&replica, id) else {
+                    held.documents.remove(id);
+                    continue;
+                };
+                for line in each_line(&lines) {
+                    assert_eq!(copy.take_in(line), Ok(true));
+                    assert_eq!(replica.take_in(line), Ok(false));
+                }
+                documents += 1;
+            }
+            assert_eq!(copy.held().without_sequences(), held, "scenario {seed}");
+            assert_eq!(*replica.held(), before, "scenario {seed}");
+        }
+    }
+    assert!(documents > 1_000, "{documents} documents");
+}
+
+/// "Take these in as path writes", however they are spaced, and whatever stands in unknown members.
+#[test]
+fn a_sound_line_is_the_write_that_it_says() {
+    let mut taken = 0;
+    for seed in 0..2_000 {
+        let mut random = Random::new(seed);
+        let alphabet = Alphabet::new(&mut random);
+        let mut replicas = fresh();
+        for _ in 0..10 {
+            let mut offer = alphabet.offer(&mut random, &replicas);
+            offer.id = lines::plain(&offer.id);
+            let line = lines::sound(&mut random, &offer);
+            let [written, read, _] = &mut replicas;
+            let path = offer.hashes.concat();
+            let expected = written.write(&offer.id, offer.number, &path, offer.content);
+            let shown = String::from_utf8_lossy(&line);
+            assert_eq!(read.take_in(&line), expected, "{shown}");
+            assert_eq!(read.held(), written.held(), "{shown}");
+            taken += usize::from(expected.is_ok());
+        }
+    }
+    assert!(taken > 10_000, "{taken} taken");
+}
+
+/// The value's text with any spaces between its tokens.
+fn respaced(random: &mut Random, value: &Value) -> Vec<u8> {
+    let text = match value {
+        Value::False => b"false".to_vec(),
+        Value::Null => b"null".to_vec(),
+        Value::True => b"true".to_vec(),
+        Value::Number(written) => written.clone(),
+        Value::String(inside) => [b"\"", &inside[..], b"\""].concat(),
+        Value::Array(values) => {
+            let values: Vec<_> = values.iter().map(|value| respaced(random, value)).collect();
+            [b"[", &values.join(&b","[..])[..], b"]"].concat()
+        }
+        Value::Object(members) => {
+            let members = members.iter().map(|Member { name, value }| {
+                let name = respaced(random, &Value::String(name.clone()));
+                [&name[..], b":", &respaced(random, value)].concat()
+            });
+            let members: Vec<_> = members.collect();
+            [b"{", &members.join(&b","[..])[..], b"}"].concat()
+        }
+    };
+    let spaces: [&[u8]; 6] = [b"", b"", b" ", b"\t", b"\r\n", b" \n "];
+    [*random.pick(&spaces), &text, *random.pick(&spaces)].concat()
+}
+
+const OURS: [&[u8]; 5] = [b"_id", b"_rev", b"_revisions", b"_deleted", b"label"];
+
+/// A line with other spaces, without its unknown members, or with more of them, is the same write and
+/// has the same refusal.
+#[test]
+fn spaces_and_unknown_members_say_nothing() {
+    let mut lines = 0;
+    for seed in 0..1_000 {
+        let mut random = Random::new(seed);
+        let mut replica = Model::fresh();
+        for step in dump(seed).steps {
+            let Step::TakeIn { line, .. } = step else {
+                continue;
+            };
+            let before = replica.clone();
+            let answer = replica.take_in(&line);
+            let Some(Value::Object(members)) = json::text(&line, LINE_DEPTH) else {
+                continue;
+            };
+            let ours = members
+                .iter()
+                .filter(|member| OURS.contains(&&member.name[..]));
+            let ours: Vec<Member> = ours.cloned().collect();
+            let mut more = members.clone();
+            let name = b"more".to_vec();
+            let value = Value::Array(vec![Value::Null]);
+            more.insert(random.below(more.len() + 1), Member { name, value });
+            for members in [members, ours, more] {
+                let other = respaced(&mut random, &Value::Object(members));
+                let mut again = before.clone();
+                assert_eq!(
+                    again.take_in(&other),
+                    answer,
+                    "{}",
+                    String::from_utf8_lossy(&line)
+                );
+                assert_eq!(again.held(), replica.held());
+            }
+            lines += 1;
+        }
+    }
+    assert!(lines > 5_000, "{lines} lines");
 }

@@ -206,6 +206,20 @@ static uint64_t write_path(const struct lent *replica, const uint8_t *id, size_t
     return result;
 }
 
+static uint64_t take_in(const struct lent *replica, const uint8_t *line, size_t length) {
+    struct lent lent_line = lend_input(line, length);
+    uint8_t *before = copy_of(replica);
+    uint64_t result;
+
+    begin_writing(replica);
+    call("refile_take_in");
+    result = end_writing(replica, before,
+                         refile_take_in(replica->at, replica->length, lent_line.at, length));
+    free(before);
+    give_back(&lent_line);
+    return result;
+}
+
 /* An edit; a parent of length 0 is none. */
 static uint64_t edit(const struct lent *replica, const uint8_t *id, size_t id_length,
                      const uint8_t *hash, uint32_t kind, uint64_t label, uint32_t parent_number,
@@ -318,6 +332,27 @@ static uint64_t path_of(const struct lent *replica, const struct lent *id, const
     return result;
 }
 
+static uint64_t put_out(const struct lent *replica, const struct lent *id, size_t room,
+                        uint8_t *copy) {
+    struct lent out = lend(room);
+    uint64_t result;
+
+    call("refile_put_out");
+    result = refile_put_out(replica->at, replica->length, id->at, id->length, out.at, out.length);
+    answered(result, &out, refile_value(result));
+    keep(copy, &out, result);
+    give_back(&out);
+    return result;
+}
+
+static uint64_t put_out_size(const struct lent *replica, const struct lent *id) {
+    static const struct lent nothing;
+
+    call("refile_put_out_size");
+    return answered(refile_put_out_size(replica->at, replica->length, id->at, id->length), &nothing,
+                    0);
+}
+
 static uint64_t missing(const struct lent *replica, const struct lent *id, const uint8_t *asked,
                         size_t asked_length, size_t room) {
     struct lent list = lend_input(asked, asked_length), out = lend(room);
@@ -396,6 +431,31 @@ static void try_leaf(const struct lent *replica, struct lent *scratch, const str
     edit(scratch, id->at, id->length, path, REFILE_LIVE, 2, 0, path, 0);
 }
 
+/* A document's lines, whole and a byte short, each then taken into a fresh replica; or, where its id
+ * can't be written, into no room at all. */
+static void try_lines(const struct lent *replica, const struct lent *id) {
+    uint64_t size = put_out_size(replica, id);
+    size_t length = refile_value(size);
+    struct lent copy;
+    uint8_t *lines, *line, *end;
+
+    if (refile_refusal(size) != 0) {
+        expect(put_out(replica, id, 0, NULL) == size, "put out and its size are refused differently");
+        return;
+    }
+    lines = sure(malloc(length));
+    copy = fresh();
+    put_out(replica, id, length, lines);
+    put_out(replica, id, length + 1, NULL);
+    is_short(put_out(replica, id, length - 1, NULL));
+    for (line = lines; line < lines + length; line = end) {
+        end = (uint8_t *)memchr(line, '\n', (size_t)(lines + length - line)) + 1;
+        expect(take_in(&copy, line, (size_t)(end - line)) == 1, "a line that was put out is not taken in");
+    }
+    give_back(&copy);
+    free(lines);
+}
+
 static void try_document(const struct lent *replica, struct lent *scratch, const struct lent *id) {
     static uint8_t all[REFILE_LEAVES_MOST], asked[REFILE_ASKED_BYTES * (REFILE_REVISIONS + 1)];
     uint64_t count = refile_value(leaves(replica, id, REFILE_LEAVES_MOST, NULL));
@@ -413,6 +473,7 @@ static void try_document(const struct lent *replica, struct lent *scratch, const
     missing(replica, id, asked, asked_length, count + 1);
     missing(replica, id, asked, asked_length - 1, count + 1);
     is_short(missing(replica, id, asked, asked_length, count));
+    try_lines(replica, id);
     for (size_t i = 0; i < count; i++) {
         try_leaf(replica, scratch, id, all + REFILE_LEAF_BYTES * i);
     }
@@ -556,6 +617,57 @@ static void try_borders(void) {
     give_back(&replica);
 }
 
+/* Every prefix of a sound line with values of every kind; each must be refused by 40. */
+static void try_prefixes(void) {
+    static const char line[] =
+        " {\"_id\":\"lot\",\"_rev\":\"2-4c000000000000000000000000000000\",\"x\":[-1.5e+3,true,false,"
+        "null,\"\\u00e9\\n\xc3\xa9\xe2\x82\xac\xf0\x9d\x84\x9e\",{\"\":{}}],\"_revisions\" :\t{\"start\":2,"
+        "\"ids\":[\"4c000000000000000000000000000000\", \"20000000000000000000000000000000\"]},"
+        "\"label\":18446744073709551615}";
+    struct lent replica = fresh();
+
+    for (size_t length = 0; length < sizeof line - 1; length++) {
+        expect(refile_refusal(take_in(&replica, (const uint8_t *)line, length)) == REFILE_NOT_JSON,
+               "a line that is cut off is not refused by 40");
+    }
+    expect(take_in(&replica, (const uint8_t *)line, sizeof line - 1) == 1, "a sound line is refused");
+    give_back(&replica);
+}
+
+/* The longest id that a line can have. */
+static const char line_id[REFILE_ID_BYTES + 1] = "abcdefghijklmnopqrstuvwxyz ~!#[]";
+
+/* Takes in a line with that id and so many ids, and answers its length, or 0 if it is refused by 2. */
+static size_t take_ids(const struct lent *replica, unsigned ids) {
+    static char line[256 + (2 * REFILE_HASH_BYTES + 3) * (REFILE_PATH_HASHES + 1)];
+    int at = sprintf(line, "{\"_id\":\"%s\",\"_rev\":\"%u-%032x\",\"_revisions\":{\"start\":%u,\"ids\":[",
+                     line_id, UINT32_MAX, 0u, UINT32_MAX);
+    uint64_t result;
+
+    for (unsigned i = 0; i < ids; i++) {
+        at += sprintf(line + at, "%s\"%032x\"", i > 0 ? "," : "", i);
+    }
+    at += sprintf(line + at, "]},\"label\":18446744073709551615}\n");
+    result = take_in(replica, (const uint8_t *)line, (size_t)at);
+    if (refile_refusal(result) == REFILE_PATH) {
+        return 0;
+    }
+    expect(result == 1, "the longest line is not taken in");
+    return (size_t)at;
+}
+
+/* One id too many, and then the longest line that there is, which is put out as it was. */
+static void try_longest_line(void) {
+    struct lent replica = fresh(), id = lend_input((const uint8_t *)line_id, REFILE_ID_BYTES);
+
+    expect(take_ids(&replica, REFILE_PATH_HASHES + 1) == 0, "one id too many is not refused by 2");
+    expect(take_ids(&replica, REFILE_PATH_HASHES) == put_out_size(&replica, &id),
+           "the size of the longest line");
+    try_lines(&replica, &id);
+    give_back(&id);
+    give_back(&replica);
+}
+
 /* All trials in one round. Answers the digest. */
 static uint64_t try_all(enum round round, int images, char **names) {
     static uint8_t bytes[REFILE_IMAGE_MOST + 4096];
@@ -564,6 +676,8 @@ static uint64_t try_all(enum round round, int images, char **names) {
     digest = 0xcbf29ce484222325u;
     calls = 0;
     try_borders();
+    try_prefixes();
+    try_longest_line();
     for (int i = 0; i < images; i++) {
         FILE *file = fopen(names[i], "rb");
         size_t length;

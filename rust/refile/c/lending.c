@@ -60,10 +60,13 @@ static void try_straight(void) {
     straight(refile_load(at + 1, 2, at + 3, 4), 4);
     straight(refile_save(at + 1, 2, at + 3, 4), 4);
     straight(refile_write(at + 1, 2, at + 3, 4, 5, at + 6, 7, 8, 9), 9);
+    straight(refile_take_in(at + 1, 2, at + 3, 4), 4);
     straight(refile_edit(at + 1, 2, at + 3, 4, at + 5, 6, 7, 8, 9, 10, at + 11, 12), 12);
     straight(refile_winner(at + 1, 2, at + 3, 4, at + 5, 6), 6);
     straight(refile_leaves(at + 1, 2, at + 3, 4, at + 5, 6), 6);
     straight(refile_path(at + 1, 2, at + 3, 4, 5, at + 6, 7, at + 8, 9), 9);
+    straight(refile_put_out(at + 1, 2, at + 3, 4, at + 5, 6), 6);
+    straight(refile_put_out_size(at + 1, 2, at + 3, 4), 4);
     straight(refile_missing(at + 1, 2, at + 3, 4, at + 5, 6, at + 7, 8), 8);
     straight(refile_changes(at + 1, 2, 3, at + 4, 5, at + 6, 7), 7);
     straight(refile_pull(at + 1, 2, at + 3, 4, 5, at + 6, 7), 7);
@@ -78,10 +81,13 @@ static void try_empty(void) {
     empty(refile_load(NULL, 0, NULL, 0), 2);
     empty(refile_save(NULL, 0, NULL, 0), 2);
     empty(refile_write(NULL, 0, NULL, 0, 0, NULL, 0, 0, 0), 3);
+    empty(refile_take_in(NULL, 0, NULL, 0), 2);
     empty(refile_edit(NULL, 0, NULL, 0, NULL, 0, 0, 0, 0, 0, NULL, 0), 4);
     empty(refile_winner(NULL, 0, NULL, 0, NULL, 0), 3);
     empty(refile_leaves(NULL, 0, NULL, 0, NULL, 0), 3);
     empty(refile_path(NULL, 0, NULL, 0, 0, NULL, 0, NULL, 0), 4);
+    empty(refile_put_out(NULL, 0, NULL, 0, NULL, 0), 3);
+    empty(refile_put_out_size(NULL, 0, NULL, 0), 2);
     empty(refile_missing(NULL, 0, NULL, 0, NULL, 0, NULL, 0), 4);
     empty(refile_changes(NULL, 0, 0, NULL, 0, NULL, 0), 3);
     empty(refile_pull(NULL, 0, NULL, 0, 0, NULL, 0), 3);
@@ -114,10 +120,13 @@ int main(void) {
 #undef refile_load
 #undef refile_save
 #undef refile_write
+#undef refile_take_in
 #undef refile_edit
 #undef refile_winner
 #undef refile_leaves
 #undef refile_path
+#undef refile_put_out
+#undef refile_put_out_size
 #undef refile_missing
 #undef refile_changes
 #undef refile_pull
@@ -150,6 +159,10 @@ uint64_t refile_write(uint8_t *replica, size_t replica_len, const uint8_t *id, s
     take_slice(path); take(path_len); take(kind); take(label); return 0;
 }
 
+uint64_t refile_take_in(uint8_t *replica, size_t replica_len, const uint8_t *line, size_t line_len) {
+    take_slice(replica); take(replica_len); take_slice(line); take(line_len); return 0;
+}
+
 uint64_t refile_edit(uint8_t *replica, size_t replica_len, const uint8_t *id, size_t id_len,
                      const uint8_t *hash, size_t hash_len, uint32_t kind, uint64_t label,
                      uint32_t named, uint32_t parent_number, const uint8_t *parent_hash,
@@ -176,6 +189,17 @@ uint64_t refile_path(const uint8_t *replica, size_t replica_len, const uint8_t *
                      size_t out_len) {
     take_slice(replica); take(replica_len); take_slice(id); take(id_len); take(number);
     take_slice(hash); take(hash_len); take_slice(out); take(out_len); return 0;
+}
+
+uint64_t refile_put_out(const uint8_t *replica, size_t replica_len, const uint8_t *id, size_t id_len,
+                        uint8_t *out, size_t out_len) {
+    take_slice(replica); take(replica_len); take_slice(id); take(id_len); take_slice(out);
+    take(out_len); return 0;
+}
+
+uint64_t refile_put_out_size(const uint8_t *replica, size_t replica_len, const uint8_t *id,
+                             size_t id_len) {
+    take_slice(replica); take(replica_len); take_slice(id); take(id_len); return 0;
 }
 
 uint64_t refile_missing(const uint8_t *replica, size_t replica_len, const uint8_t *id,

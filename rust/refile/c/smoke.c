@@ -1,5 +1,5 @@
 /* A smoke test of the C interface, from C: the proved examples, each refusal of a write, an edit and
- * a read, the house refusals, NULL for every empty slice of every call, the texts, the functions that
+ * a read, lines taken in and put out and their refusals, the house refusals, NULL for every empty slice of every call, the texts, the functions that
  * read answers, and the stored images of examples/. After every refused call the
  * replica and the lent buffer must be what they were; after an accepted one, the bytes behind the
  * answer. To compile and run it at the top of the repository:
@@ -230,12 +230,15 @@ static void images_are_not_lent(void) {
         refused(refile_save(replica, sizeof replica, out, 0), REFILE_IMAGE_LENT, "save");
         refused(refile_write(replica, sizeof replica, NULL, 0, 0, NULL, 0, 3, 1),
                 REFILE_IMAGE_LENT, "write");
+        refused(refile_take_in(replica, sizeof replica, NULL, 0), REFILE_IMAGE_LENT, "take_in");
         refused(refile_edit(replica, sizeof replica, NULL, 0, NULL, 0, 3, 1, 2, 1, NULL, 0),
                 REFILE_IMAGE_LENT, "edit");
         refused(refile_winner(replica, sizeof replica, NULL, 0, out, 0), REFILE_IMAGE_LENT, "winner");
         refused(refile_leaves(replica, sizeof replica, NULL, 0, out, 0), REFILE_IMAGE_LENT, "leaves");
         refused(refile_path(replica, sizeof replica, NULL, 0, 0, NULL, 0, out, 0),
                 REFILE_IMAGE_LENT, "path");
+        refused(refile_put_out(replica, sizeof replica, NULL, 0, out, 0), REFILE_IMAGE_LENT, "put_out");
+        refused(refile_put_out_size(replica, sizeof replica, NULL, 0), REFILE_IMAGE_LENT, "put_out_size");
         refused(refile_missing(replica, sizeof replica, NULL, 0, out, 1, out, 0), REFILE_IMAGE_LENT,
                 "missing");
         refused(refile_changes(replica, sizeof replica, 0, out, 0, numbers, 0), REFILE_IMAGE_LENT,
@@ -271,6 +274,8 @@ static void null_is_written(void) {
     refused(refile_write(NULL, 0, NULL, 0, 1, NULL, 0, 1, 1), REFILE_BAD_REPLICA, "write");
     refused(refile_write(replica, sizeof replica, NULL, 0, 1, hash, 16, 1, 1), REFILE_ID, "write, id");
     refused(refile_write(replica, sizeof replica, ID, 1, NULL, 0, 1, 1), REFILE_PATH, "write, path");
+    refused(refile_take_in(NULL, 0, NULL, 0), REFILE_BAD_REPLICA, "take_in");
+    refused(refile_take_in(replica, sizeof replica, NULL, 0), REFILE_NOT_JSON, "take_in, line");
     refused(refile_edit(NULL, 0, NULL, 0, NULL, 0, 1, 1, 0, 0, NULL, 0), REFILE_BAD_REPLICA, "edit");
     refused(refile_edit(replica, sizeof replica, NULL, 0, hash, 16, 1, 1, 0, 0, NULL, 0), REFILE_ID,
             "edit, id and parent");
@@ -307,6 +312,11 @@ static void null_is_read(void) {
             "path, hash");
     refused(refile_path(replica, sizeof replica, ID, 1, hash, 16, NULL, 0), REFILE_SHORT_BUFFER,
             "path, out");
+    refused(refile_put_out(NULL, 0, NULL, 0, NULL, 0), REFILE_BAD_REPLICA, "put_out");
+    refused(refile_put_out(replica, sizeof replica, NULL, 0, NULL, 0), REFILE_ID, "put_out, id");
+    refused(refile_put_out(replica, sizeof replica, ID, NULL, 0), REFILE_SHORT_BUFFER, "put_out, out");
+    refused(refile_put_out_size(NULL, 0, NULL, 0), REFILE_BAD_REPLICA, "put_out_size");
+    refused(refile_put_out_size(replica, sizeof replica, NULL, 0), REFILE_ID, "put_out_size, id");
     refused(refile_missing(NULL, 0, NULL, 0, NULL, 0, NULL, 0), REFILE_BAD_REPLICA, "missing");
     refused(refile_missing(replica, sizeof replica, NULL, 0, NULL, 0, NULL, 0), REFILE_ID,
             "missing, id");
@@ -340,7 +350,7 @@ static void texts(void) {
     };
     size_t count = sizeof numbers / sizeof *numbers;
 
-    expect(count == 29, "a text for each of 1 to 15, 20 to 26 and 100 to 106");
+    expect(count == 33, "a text for each of 1 to 15, 20 to 26, 40 to 43 and 100 to 106");
     for (size_t i = 0; i < count; i++) {
         expect(strchr(refile_text(numbers[i]), ';') != NULL, "what happened; what to do next");
         for (size_t j = 0; j < i; j++) {
@@ -490,6 +500,148 @@ static void pulls(void) {
     expect(counts[3] == 0 && counts[7] == 2 && counts[11] == 0, "pull again, all unchanged");
 }
 
+/* Lines. They are written here with ' for the quote of JSON, and H("20") is a hash by its first byte. */
+
+#define H(first_byte) first_byte "000000000000000000000000000000"
+
+static uint64_t take(const char *text) {
+    static char line[1024];
+    size_t length = strlen(text);
+
+    for (size_t i = 0; i < length; i++) {
+        line[i] = text[i] == '\'' ? '"' : text[i];
+    }
+    prepare();
+    return refile_take_in(replica, sizeof replica, (const uint8_t *)line, length);
+}
+
+/* Cases 1 to 5 and 8 as lines leave what the writes left; the second has spaces and members that are
+ * passed over. */
+static void lines_are_taken_in(void) {
+    cases_1_to_8();
+    memcpy(other, replica, sizeof other);
+    fresh();
+    expect(is(take("{'_id':'lot','_rev':'1-" H("20") "','label':7}"), 0, 1) && sequence() == 1,
+           "case 1 as a line");
+    expect(is(take(" {\t'by': {'_id': ['Ann', {}], 'at': -1.5e3}, '\\u005fid': 1, '_rev' : '2-" H("91")
+                   "',\r'_revisions': {'ids': ['" H("91") "', '" H("20")
+                   "'], 'x': null, 'start': 2}, 'label': 8, '_id': 'lot' }\r\n"),
+              0, 1),
+           "case 2 as a line, with spaces and unknown members");
+    expect(is(take("{'_id':'lot','_rev':'2-" H("4c") "','_revisions':{'start':2,'ids':['" H("4c") "','" H("20")
+                   "']},'label':9}\n"),
+              0, 1),
+           "case 3 as a line");
+    expect(is(take("{'_id':'lot','_rev':'2-" H("4c") "','label':9}"), 0, 0) && sequence() == 3,
+           "case 4 as a line, the newest alone");
+    expect(is(take("{'_id':'lot','_rev':'3-" H("05") "','_revisions':{'start':3,'ids':['" H("05") "','" H("91")
+                   "','" H("20") "']},'_deleted':true}"),
+              0, 1),
+           "case 5 as a line");
+    expect(is(take("{'_id':'lot','_rev':'1-" H("20") "','_deleted':true}"), 0, 0), "case 8 as a line");
+    expect(memcmp(replica, other, sizeof other) == 0, "lines leave what the writes left");
+}
+
+/* Lines with the number that each is refused by, on what cases 1 to 5 leave. */
+static const struct {
+    uint32_t number;
+    const char *text, *what;
+} refused_lines[] = {
+    {40, "", "an empty line"},
+    {40, "[]", "no object"},
+    {40, "{'_id':'lot','_rev':'1-" H("20") "','label':7", "a line that is cut off"},
+    {40, "{'_id':'lot','_rev':'1-" H("20") "','label':07}", "a spare zero in a number"},
+    {40, "\xef\xbb\xbf{'_id':'lot','_rev':'1-" H("20") "','label':7}", "a byte order mark"},
+    {40, "{'x':[[[[[[[[[[[[[[[[]]]]]]]]]]]]]]]]}", "depth 17, and nothing of ours"},
+    {41, "{'x':[[[[[[[[[[[[[[[]]]]]]]]]]]]]]]}", "depth 16, and nothing of ours"},
+    {41, "{'_id':'lot','_rev':'1-" H("20") "'}", "neither label nor _deleted"},
+    {41, "{'_id':'lot','_rev':'1-" H("20") "','label':7,'_deleted':true}", "both"},
+    {41, "{'_id':'lot','_rev':'1-" H("20") "','label':18446744073709551616}", "past 64 bits"},
+    {41, "{'_id':'lot','_rev':'01-" H("20") "','label':7}", "a spare zero in _rev"},
+    {41, "{'_id':'lot','_id':'lot','_rev':'1-" H("20") "','label':7}", "_id twice"},
+    {42, "{'_id':'\\n','_rev':'1-" H("20") "','_revisions':{'start':1,'ids':[]},'label':7}",
+     "no ids, before the id"},
+    {42, "{'_id':'lot','_rev':'1-" H("20") "','_revisions':{'start':2,'ids':['" H("20") "']},'label':7}",
+     "another number in _revisions"},
+    {43, "{'_id':'l\\u006ft','_rev':'1-" H("20") "','label':7}", "an escape in the id"},
+    {43, "{'_id':'l\xc3\xb6t','_rev':'0-" H("20") "','label':7}", "the id, before the number"},
+    {1, "{'_id':'','_rev':'0-" H("20") "','label':7}", "an empty id"},
+    {1, "{'_id':'0123456789abcdef0123456789abcdef0','_rev':'1-" H("20") "','label':7}", "a long id"},
+    {3, "{'_id':'lot','_rev':'0-" H("20") "','label':7}", "number 0"},
+    {4, "{'_id':'lot','_rev':'2-" H("4c") "','_revisions':{'start':2,'ids':['" H("4c") "','" H("33")
+        "']},'label':9}", "case 6 as a line"},
+    {5, "{'_id':'lot','_rev':'2-" H("4c") "','label':10}", "case 7 as a line"},
+};
+
+static void lines_are_refused(void) {
+    for (size_t i = 0; i < sizeof refused_lines / sizeof *refused_lines; i++) {
+        refused(take(refused_lines[i].text), refused_lines[i].number, refused_lines[i].what);
+    }
+    prepare();
+    refused(refile_take_in(replica, sizeof replica - 1, NULL, 0), REFILE_BAD_REPLICA, "take_in, 100");
+    refused(refile_take_in(replica, sizeof replica, (const uint8_t *)"{}", 2), REFILE_BAD_MEMBER, "no members");
+    refused(refile_take_in(replica, sizeof replica, (const uint8_t *)"{}", sizeof "{}"), REFILE_NOT_JSON,
+            "a line with its closing NUL");
+}
+
+/* Takes in a line with so many ids. */
+static uint64_t take_ids(unsigned ids) {
+    static char line[256 + (2 * REFILE_HASH_BYTES + 3) * (REFILE_PATH_HASHES + 1)];
+    int at = sprintf(line, "{\"label\":0,\"_id\":\"lot\",\"_rev\":\"%u-%032x\",\"_revisions\":{\"start\":%u,\"ids\":[",
+                     UINT32_MAX, 0u, UINT32_MAX);
+
+    for (unsigned i = 0; i < ids; i++) {
+        at += sprintf(line + at, "%s\"%032x\"", i > 0 ? "," : "", i);
+    }
+    at += sprintf(line + at, "]}}");
+    prepare();
+    return refile_take_in(replica, sizeof replica, (const uint8_t *)line, (size_t)at);
+}
+
+static void long_lines(void) {
+    fresh();
+    refused(take_ids(REFILE_PATH_HASHES + 1), REFILE_PATH, "a line of one id too many");
+    expect(is(take_ids(REFILE_PATH_HASHES), 0, 1), "a line of as many ids as a path may have");
+}
+
+/* Runs on what cases 1 to 5 leave. */
+static void lines_are_put_out(void) {
+    static const char lines[] =
+        "{\"_id\":\"lot\",\"_rev\":\"3-" H("05") "\",\"_revisions\":{\"start\":3,\"ids\":[\"" H("05") "\",\"" H("91")
+        "\",\"" H("20") "\"]},\"_deleted\":true}\n"
+        "{\"_id\":\"lot\",\"_rev\":\"2-" H("4c") "\",\"_revisions\":{\"start\":2,\"ids\":[\"" H("4c") "\",\"" H("20")
+        "\"]},\"label\":9}\n";
+    static const char first[] = "{\"_id\":\"lots\",\"_rev\":\"1-" H("20") "\",\"_revisions\":{\"start\":1,\"ids\":[\""
+        H("20") "\"]},\"label\":18446744073709551615}\n";
+    const uint8_t *quote = (const uint8_t *)"\"", *lots = (const uint8_t *)"lots";
+    size_t length = sizeof lines - 1;
+
+    expect(is(refile_put_out_size(replica, sizeof replica, ID), 0, length), "the size of lot's lines");
+    prepare();
+    refused(refile_put_out(replica, sizeof replica, ID, out, length - 1), REFILE_SHORT_BUFFER,
+            "put out, a byte short");
+    answered(refile_put_out(replica, sizeof replica, ID, out, length), length, length, "put out");
+    expect(memcmp(out, lines, length) == 0, "lot's lines");
+    prepare();
+    answered(refile_put_out(replica, sizeof replica, ID, out, sizeof out), length, length, "put out, more room");
+    prepare();
+    refused(refile_put_out(replica, sizeof replica, lots, 4, out, 0), REFILE_NO_DOCUMENT, "put out, 12");
+    refused(refile_put_out_size(replica, sizeof replica, lots, 4), REFILE_NO_DOCUMENT, "size, 12");
+    refused(refile_put_out(replica, sizeof replica, lots, 0, out, 0), REFILE_ID, "put out, 1");
+    refused(refile_put_out(replica, sizeof replica, quote, 1, out, 0), REFILE_NO_DOCUMENT, "12 before 43");
+    refused(refile_put_out(replica, sizeof replica - 1, ID, out, 0), REFILE_BAD_REPLICA, "put out, 100");
+    refused(refile_put_out_size(replica, sizeof replica - 1, ID), REFILE_BAD_REPLICA, "size, 100");
+    expect(is(refile_write(replica, sizeof replica, quote, 1, 1, hashes("\x20", 1), 16, REFILE_LIVE, 1), 0, 1) &&
+               is(refile_write(replica, sizeof replica, lots, 4, 1, hashes("\x20", 1), 16, REFILE_LIVE, UINT64_MAX), 0, 1),
+           "two more documents");
+    prepare();
+    refused(refile_put_out(replica, sizeof replica, quote, 1, out, 0), REFILE_UNWRITABLE_ID, "43 before 14");
+    refused(refile_put_out_size(replica, sizeof replica, quote, 1), REFILE_UNWRITABLE_ID, "size, 43");
+    answered(refile_put_out(replica, sizeof replica, lots, 4, out, sizeof first - 1), sizeof first - 1,
+             sizeof first - 1, "put out, a path of one");
+    expect(memcmp(out, first, sizeof first - 1) == 0, "_revisions also for a path of one");
+}
+
 static size_t read_file(const char *path, uint8_t *bytes, size_t room) {
     FILE *file = fopen(path, "rb");
     size_t length;
@@ -542,6 +694,10 @@ int main(int argc, char **argv) {
     cases_9_to_14();
     writes_are_refused();
     edits_are_refused();
+    lines_are_taken_in();
+    lines_are_refused();
+    lines_are_put_out();
+    long_lines();
     replicas();
     lending();
     images_are_not_lent();

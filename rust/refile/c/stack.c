@@ -1,8 +1,8 @@
 /* How much stack each call takes at the full room: one history of as many revisions as there is room
  * for, and an image of as many documents. Each call runs on a thread whose stack was painted first; the
  * deepest byte that is no longer paint gives the figure, and that of a call that does nothing is taken
- * off. Fails if a call is refused, or if any takes so much that half as much again is more than
- * REFILE_STACK_BYTES.
+ * off. Fails if a call is refused, if any takes so much that half as much again is more than
+ * REFILE_STACK_BYTES, or if a long line takes more than a short one.
  *
  *     stack FULL.image
  */
@@ -26,6 +26,10 @@ static uint8_t shorter[REFILE_REPLICA_BYTES];
 static uint8_t answer[16], newest[REFILE_HASH_BYTES];
 static const uint8_t id[1] = {'a'};
 static size_t image_len;
+
+/* An id between quotes with a comma before it, and a line with as many of them as a path may have. */
+#define ID_TOKEN (2u * REFILE_HASH_BYTES + 3u)
+static char short_line[256], deep_line[256], long_line[256u + ID_TOKEN * REFILE_PATH_HASHES];
 static uint64_t result;
 
 static void nothing(void) {}
@@ -39,6 +43,12 @@ static void report(void) { result = refile_report(image, image_len, out, sizeof 
 static void write_path(void) {
     result = refile_write(target, sizeof target, id, 1, REFILE_PATH_HASHES, hashes, sizeof hashes, REFILE_LIVE, 1);
 }
+static void take_line(const char *line) {
+    result = refile_take_in(target, sizeof target, (const uint8_t *)line, strlen(line));
+}
+static void take_short(void) { take_line(short_line); }
+static void take_deep(void) { take_line(deep_line); }
+static void take_long(void) { take_line(long_line); }
 static void edit(void) {
     uint8_t hash[REFILE_HASH_BYTES] = {1};
     result = refile_edit(shorter, sizeof shorter, id, 1, hash, sizeof hash, REFILE_LIVE, 1, 1,
@@ -49,6 +59,8 @@ static void leaves(void) { result = refile_leaves(chain, sizeof chain, id, 1, ou
 static void path(void) {
     result = refile_path(chain, sizeof chain, id, 1, REFILE_PATH_HASHES, newest, sizeof newest, out, sizeof out);
 }
+static void put_out(void) { result = refile_put_out(chain, sizeof chain, id, 1, out, sizeof out); }
+static void put_out_size(void) { result = refile_put_out_size(chain, sizeof chain, id, 1); }
 static void missing(void) {
     result = refile_missing(chain, sizeof chain, id, 1, image, REFILE_ASKED_BYTES, out, sizeof out);
 }
@@ -90,9 +102,41 @@ static const struct {
     void (*call)(void);
 } calls[] = {{"version", version},   {"fresh", fresh},         {"load", load},     {"is_replica full", is_replica},
              {"is_replica path", is_chain}, {"save", save},    {"report", report}, {"write", write_path},
+             {"take_in short", take_short}, {"take_in deep", take_deep}, {"take_in long", take_long},
              {"edit", edit},         {"winner", winner},       {"leaves", leaves}, {"path", path},
+             {"put_out", put_out},   {"put_out_size", put_out_size},
              {"missing", missing},   {"changes", changes},     {"pull path", pull}, {"pull full", pull_full},
              {"sequence", sequence}, {"counts", counts}};
+
+/* A line with so many ids, and with what comes before and after the value of an unknown member. */
+static void make_line(char *line, unsigned ids, const char *opening, const char *closing) {
+    int at = sprintf(line, "{\"_id\":\"a\",\"_rev\":\"%u-%032x\",\"x\":%s%s,\"_revisions\":{\"start\":%u,\"ids\":[", ids,
+                     0u, opening, closing, ids);
+    unsigned i;
+
+    for (i = 0; i < ids; i++) at += sprintf(line + at, "%s\"%032x\"", i > 0 ? "," : "", i);
+    sprintf(line + at, "]},\"_deleted\":true}\n");
+}
+
+/* The longest path, and two short ones, of which one has an unknown member as deep as a line may be. */
+static void make_lines(void) {
+    make_line(short_line, 2, "[", "]");
+    make_line(deep_line, 2, "[[[[[[[[[[[[[[[", "]]]]]]]]]]]]]]]");
+    make_line(long_line, REFILE_PATH_HASHES, "[", "]");
+}
+
+/* Whether a long line takes as much as a short one, and no more. */
+static int lines_are_alike(void) {
+    size_t taken_short, taken_long;
+
+    memset(target, 0, sizeof target);
+    taken_short = depth(take_short);
+    memset(target, 0, sizeof target);
+    taken_long = depth(take_long);
+    if (taken_long > taken_short)
+        fprintf(stderr, "stack: a long line takes %zu bytes more than a short one\n", taken_long - taken_short);
+    return taken_long <= taken_short;
+}
 
 static size_t measure(void) {
     size_t bare = depth(nothing), most = 0, i;
@@ -134,8 +178,9 @@ int main(int argc, char **argv) {
         fputs("stack: the replicas could not be made\n", stderr);
         return 2;
     }
+    make_lines();
     most = measure();
     printf("stack: %zu bytes at most, and half as much again is %zu of REFILE_STACK_BYTES, %u\n", most,
            most + most / 2, REFILE_STACK_BYTES);
-    return most + most / 2 > REFILE_STACK_BYTES;
+    return most + most / 2 > REFILE_STACK_BYTES || !lines_are_alike();
 }

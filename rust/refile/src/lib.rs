@@ -8,6 +8,9 @@
 //! which is all that the library requires. Every other input is taken and refused by number where
 //! it is bad: see [`Refusal`].
 //!
+//! Documents also come and go as lines of dumps, one JSON object each: [`Replica::take_in`] takes one in,
+//! and [`Replica::put_out`] puts a document's leaves out.
+//!
 //! Calls whose answer is bytes come in two forms: one that writes into a buffer the caller lends and
 //! allocates nothing, and a convenient one that answers values.
 //!

@@ -88,6 +88,15 @@ pub enum Refusal {
         /// The first bad row.
         place: u32,
     },
+    /// 40, of a line: it is not one JSON object in UTF-8, or nested deeper than 16.
+    NotJson,
+    /// 41, of a line: a member is absent, repeated or of the wrong form.
+    BadMember,
+    /// 42, of a line: `_rev` and `_revisions` differ, or there are no ids.
+    OtherRevisions,
+    /// 43, of a line: the id can't be written. As written it has a byte outside 20 to 7e hex, a quote
+    /// or a backslash.
+    UnwritableId,
 }
 
 impl Refusal {
@@ -123,6 +132,10 @@ impl Refusal {
             Refusal::ImageSequence { .. } => 24,
             Refusal::ImageRow { .. } => 25,
             Refusal::ImageParent { .. } => 26,
+            Refusal::NotJson => 40,
+            Refusal::BadMember => 41,
+            Refusal::OtherRevisions => 42,
+            Refusal::UnwritableId => 43,
         }
     }
 
@@ -154,9 +167,10 @@ impl Refusal {
     ///
     /// assert!(Refusal::ImageHead.is_of_image());
     /// assert!(!Refusal::ShortBuffer.is_of_image());
+    /// assert!(!Refusal::NotJson.is_of_image());
     /// ```
     pub fn is_of_image(self) -> bool {
-        self.number() >= 20
+        (20..=26).contains(&self.number())
     }
 
     /// The refusal that the C interface answered as a number and a value.
@@ -188,6 +202,10 @@ impl Refusal {
             24 => Refusal::ImageSequence { place: value },
             25 => Refusal::ImageRow { place: value },
             26 => Refusal::ImageParent { place: value },
+            40 => Refusal::NotJson,
+            41 => Refusal::BadMember,
+            42 => Refusal::OtherRevisions,
+            43 => Refusal::UnwritableId,
             100.. => unreachable!(
                 "house refusal {number}: the wrapper lends only replicas, known kinds and hashes of \
                  16 bytes"

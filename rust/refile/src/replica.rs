@@ -71,6 +71,15 @@ fn flag(value: u32) -> bool {
     value == 1
 }
 
+/// What an accepted write did.
+fn written(changed: u32) -> Written {
+    if flag(changed) {
+        Written::Changed
+    } else {
+        Written::Unchanged
+    }
+}
+
 /// Splits an answer buffer into its big-endian numbers.
 fn numbers<const BYTES: usize, const COUNT: usize>(answer: [u8; BYTES]) -> [u32; COUNT] {
     const { assert!(BYTES == 4 * COUNT) };
@@ -311,11 +320,48 @@ impl Replica {
                 label,
             )
         })?;
-        Ok(if flag(changed) {
-            Written::Changed
-        } else {
-            Written::Unchanged
-        })
+        Ok(written(changed))
+    }
+
+    /// Takes in one line of a dump, a JSON object as stores that speak CouchDB's protocol write it, as
+    /// the path write that it says: `_id`, `_rev`, perhaps `_revisions` with `start` and `ids`, and
+    /// either `label` or `_deleted`.
+    ///
+    /// Members of other names are passed over, whatever they hold. Spaces, tabs and newlines may stand
+    /// around tokens, so a line may be given with its newline; an empty one is refused. Nothing is
+    /// allocated.
+    ///
+    /// Refusals: 40 to 43, in that order; then 1 to 8, in that order.
+    ///
+    /// ```
+    /// use refile::{Content, Refusal, Replica, Written};
+    ///
+    /// # fn main() -> Result<(), Refusal> {
+    /// let mut replica = Replica::fresh();
+    /// let line = br#"{"_id": "lot", "_rev": "1-20000000000000000000000000000000", "by": ["Ann"], "label": 7}"#;
+    /// assert_eq!(replica.take_in(line)?, Written::Changed);
+    /// assert_eq!(replica.take_in(line)?, Written::Unchanged);
+    /// let winner = replica.winner(b"lot")?;
+    /// assert_eq!(winner.revision.to_string(), "1-20000000000000000000000000000000");
+    /// assert_eq!(winner.content, Content::Live(7));
+    /// // A line that is cut off is no JSON, and one without a label or a deletion says too little.
+    /// assert_eq!(replica.take_in(&line[..40]), Err(Refusal::NotJson));
+    /// let bare = br#"{"_id": "lot", "_rev": "1-20000000000000000000000000000000"}"#;
+    /// assert_eq!(replica.take_in(bare), Err(Refusal::BadMember));
+    /// # Ok(())
+    /// # }
+    /// ```
+    pub fn take_in(&mut self, line: &[u8]) -> Result<Written, Refusal> {
+        // SAFETY: see the module.
+        let changed = answer(unsafe {
+            sys::refile_take_in(
+                self.bytes.as_mut_ptr(),
+                REPLICA_BYTES,
+                line.as_ptr(),
+                line.len(),
+            )
+        })?;
+        Ok(written(changed))
     }
 
     /// Ordinary edit: adds a revision on top of a leaf, and answers its number.
@@ -573,6 +619,103 @@ impl Replica {
             )
         })?;
         Ok(count as usize)
+    }
+
+    /// The document's leaves as lines of a dump, highest first, each as [`take_in`](Replica::take_in)
+    /// takes it, without spaces and with a newline at its end.
+    ///
+    /// Refusals: 1, 12, 43, in that order.
+    ///
+    /// ```
+    /// use refile::{Content, Refusal, Replica, RevisionNumber};
+    ///
+    /// # fn main() -> Result<(), Refusal> {
+    /// let mut replica = Replica::fresh();
+    /// let path = [[0x91; 16], [0x20; 16]];
+    /// replica.write_path(b"lot", RevisionNumber(2), &path, Content::Live(8))?;
+    /// let lines = replica.put_out(b"lot")?;
+    /// assert_eq!(
+    ///     String::from_utf8_lossy(&lines),
+    ///     concat!(
+    ///         r#"{"_id":"lot","_rev":"2-91919191919191919191919191919191","_revisions":{"start":2,"#,
+    ///         r#""ids":["91919191919191919191919191919191","20202020202020202020202020202020"]},"#,
+    ///         r#""label":8}"#,
+    ///         "\n"
+    ///     )
+    /// );
+    /// let mut copy = Replica::fresh();
+    /// for line in lines.split_inclusive(|&byte| byte == b'\n') {
+    ///     copy.take_in(line)?;
+    /// }
+    /// assert_eq!(copy, replica);
+    /// # Ok(())
+    /// # }
+    /// ```
+    pub fn put_out(&self, id: &[u8]) -> Result<Vec<u8>, Refusal> {
+        let mut lines = vec![0; self.put_out_size(id)?];
+        let length = self.put_out_into(id, &mut lines)?;
+        assert_eq!(length, lines.len(), "the size that was answered");
+        Ok(lines)
+    }
+
+    /// Writes the document's leaves, a line each as [`put_out`](Replica::put_out) has them, to the
+    /// front of a lent buffer, and answers how many bytes it wrote.
+    ///
+    /// Refusals: 1, 12, 43, 14, in that order.
+    ///
+    /// ```
+    /// use refile::{Content, Refusal, Replica, RevisionNumber};
+    ///
+    /// # fn main() -> Result<(), Refusal> {
+    /// let mut replica = Replica::fresh();
+    /// replica.write_path(b"lot", RevisionNumber(1), &[[0x20; 16]], Content::Deleted)?;
+    /// let mut out = [0xee; 256];
+    /// let length = replica.put_out_into(b"lot", &mut out)?;
+    /// assert!(out[..length].ends_with(b",\"_deleted\":true}\n"));
+    /// assert_eq!(out[length], 0xee);
+    /// let short = replica.put_out_into(b"lot", &mut out[..length - 1]);
+    /// assert_eq!(short, Err(Refusal::ShortBuffer));
+    /// # Ok(())
+    /// # }
+    /// ```
+    pub fn put_out_into(&self, id: &[u8], out: &mut [u8]) -> Result<usize, Refusal> {
+        // SAFETY: see the module.
+        let length = answer(unsafe {
+            sys::refile_put_out(
+                self.bytes.as_ptr(),
+                REPLICA_BYTES,
+                id.as_ptr(),
+                id.len(),
+                out.as_mut_ptr(),
+                out.len(),
+            )
+        })?;
+        Ok(length as usize)
+    }
+
+    /// How many bytes the document's lines have, for whoever lends the buffer.
+    ///
+    /// Refusals: 1, 12, 43, in that order.
+    ///
+    /// ```
+    /// use refile::{Content, Refusal, Replica, RevisionNumber};
+    ///
+    /// # fn main() -> Result<(), Refusal> {
+    /// let mut replica = Replica::fresh();
+    /// replica.write_path(b"lot", RevisionNumber(1), &[[0x20; 16]], Content::Live(7))?;
+    /// assert_eq!(replica.put_out_size(b"lot"), Ok(replica.put_out(b"lot")?.len()));
+    /// // An id with a quote in it is as good as any, and no line can have it.
+    /// replica.write_path(b"\"", RevisionNumber(1), &[[0x20; 16]], Content::Live(7))?;
+    /// assert_eq!(replica.put_out_size(b"\""), Err(Refusal::UnwritableId));
+    /// # Ok(())
+    /// # }
+    /// ```
+    pub fn put_out_size(&self, id: &[u8]) -> Result<usize, Refusal> {
+        // SAFETY: see the module.
+        let length = answer(unsafe {
+            sys::refile_put_out_size(self.bytes.as_ptr(), REPLICA_BYTES, id.as_ptr(), id.len())
+        })?;
+        Ok(length as usize)
     }
 
     /// For each asked revision, whether it is missing. Of an absent document all are.

@@ -32,6 +32,13 @@ unsafe extern "C" {
         label: u64,
     ) -> u64;
 
+    pub fn refile_take_in(
+        replica: *mut u8,
+        replica_len: usize,
+        line: *const u8,
+        line_len: usize,
+    ) -> u64;
+
     pub fn refile_edit(
         replica: *mut u8,
         replica_len: usize,
@@ -75,6 +82,22 @@ unsafe extern "C" {
         hash_len: usize,
         out: *mut u8,
         out_len: usize,
+    ) -> u64;
+
+    pub fn refile_put_out(
+        replica: *const u8,
+        replica_len: usize,
+        id: *const u8,
+        id_len: usize,
+        out: *mut u8,
+        out_len: usize,
+    ) -> u64;
+
+    pub fn refile_put_out_size(
+        replica: *const u8,
+        replica_len: usize,
+        id: *const u8,
+        id_len: usize,
     ) -> u64;
 
     pub fn refile_missing(

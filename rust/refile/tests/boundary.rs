@@ -162,9 +162,39 @@ fn counts(replica: &[u8], held: &mut [u8]) -> Answer {
     })
 }
 
+fn take_in(replica: &mut [u8], line: &[u8]) -> Answer {
+    answer(unsafe {
+        sys::refile_take_in(
+            replica.as_mut_ptr(),
+            replica.len(),
+            line.as_ptr(),
+            line.len(),
+        )
+    })
+}
+
+fn put_out(replica: &[u8], id: &[u8], out: &mut [u8]) -> Answer {
+    answer(unsafe {
+        sys::refile_put_out(
+            replica.as_ptr(),
+            replica.len(),
+            id.as_ptr(),
+            id.len(),
+            out.as_mut_ptr(),
+            out.len(),
+        )
+    })
+}
+
+fn put_out_size(replica: &[u8], id: &[u8]) -> Answer {
+    answer(unsafe {
+        sys::refile_put_out_size(replica.as_ptr(), replica.len(), id.as_ptr(), id.len())
+    })
+}
+
 /// The calls on those bytes, with everything else bad as well, and the whole replica as the other of a
 /// pull. None may alter it.
-fn with_all_else_bad(bytes: &mut [u8], whole: &[u8], out: &mut [u8]) -> [Answer; 7] {
+fn with_all_else_bad(bytes: &mut [u8], whole: &[u8], out: &mut [u8]) -> [Answer; 10] {
     let bad = Edit {
         hash: NONE,
         kind: 0,
@@ -174,6 +204,9 @@ fn with_all_else_bad(bytes: &mut [u8], whole: &[u8], out: &mut [u8]) -> [Answer;
     let mut target = whole.to_vec();
     let answers = [
         write(bytes, NONE, NONE, 0, 0),
+        take_in(bytes, NONE),
+        put_out(bytes, NONE, out),
+        put_out_size(bytes, NONE),
         edit(bytes, NONE, bad),
         path(bytes, NONE, NONE, out),
         changes(bytes, out, &mut []),
@@ -218,7 +251,7 @@ fn a_replica_of_another_size() {
         };
         assert_eq!(results.map(answer), [(BAD_REPLICA, 0); 7]);
         let answers = with_all_else_bad(&mut bytes, &whole, &mut out);
-        assert_eq!(answers, [(BAD_REPLICA, 0); 7]);
+        assert_eq!(answers, [(BAD_REPLICA, 0); 10]);
         assert!(bytes == former && out == [0xee; OUT]);
     }
 }
@@ -271,7 +304,7 @@ fn a_replica_that_begins_as_an_image() {
         };
         assert_eq!(results.map(answer), [(IMAGE_LENT, 0); 5]);
         let answers = with_all_else_bad(&mut bytes, &whole, &mut out);
-        assert_eq!(answers, [(IMAGE_LENT, 0); 7]);
+        assert_eq!(answers, [(IMAGE_LENT, 0); 10]);
         // The target comes before the source.
         let mut target = whole.clone();
         assert_eq!(pull(&mut bytes, &whole[1..], &mut []), (IMAGE_LENT, 0));
@@ -312,7 +345,7 @@ fn bytes_that_may_be_a_replica() {
 #[test]
 fn the_version() {
     // SAFETY: the call takes nothing.
-    assert_eq!(unsafe { sys::refile_version() }, 2_000);
+    assert_eq!(unsafe { sys::refile_version() }, 3_000);
 }
 
 #[test]
@@ -439,4 +472,29 @@ fn answer_buffers() {
         changes(bytes, &mut [0; 2], &mut found)
     });
     assert_eq!(found, [0xee; 16]);
+}
+
+#[test]
+fn lines() {
+    for line in [NONE, b"[]", b"{", b"\xef\xbb\xbf{}"] {
+        refused(40, |bytes| take_in(bytes, line));
+    }
+    refused(41, |bytes| take_in(bytes, b"{}"));
+    let mut bytes = replica();
+    let mut out = [0xee; OUT];
+    let (number, size) = put_out_size(&bytes, b"lot");
+    assert_eq!(number, 0);
+    let size = size as usize;
+    refused(SHORT_BUFFER, |bytes| {
+        put_out(bytes, b"lot", &mut out[..size - 1])
+    });
+    assert_eq!(out, [0xee; OUT]);
+    assert_eq!(put_out(&bytes, b"lot", &mut out), (0, size as u32));
+    assert_eq!(out[size..], [0xee; OUT][size..]);
+    let former = bytes.clone();
+    assert_eq!(take_in(&mut bytes, &out[..size]), (0, 0));
+    assert!(bytes == former);
+    let mut fresh = vec![0; REPLICA_BYTES];
+    assert_eq!(take_in(&mut fresh, &out[..size]), (0, 1));
+    assert!(fresh == bytes);
 }

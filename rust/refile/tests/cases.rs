@@ -784,6 +784,9 @@ fn the_stack_suffices() {
         assert_eq!(report(&other.image()), report(&chain.image()));
         assert!(Replica::from_storage(chain.storage()) == Some(other));
         assert_eq!(chain.leaves(LOT).unwrap().len(), 1);
+        let mut taken = Replica::fresh();
+        assert_eq!(taken.take_in(&chain.put_out(LOT).unwrap()), Ok(Changed));
+        assert_eq!(taken, chain);
     };
     let thread = std::thread::Builder::new().stack_size(STACK_BYTES);
     thread.spawn(work).unwrap().join().unwrap();

@@ -128,7 +128,7 @@ fn defined() -> BTreeMap<&'static str, usize> {
 #[test]
 fn declarations_are_those_of_the_header() {
     let declared = in_c();
-    assert_eq!(declared.len(), 16);
+    assert_eq!(declared.len(), 19);
     assert_eq!(in_rust(), declared);
 }
 
@@ -160,7 +160,7 @@ fn sizes_are_the_models() {
     let answers = (refile::LEAVES_MOST, refile::PATH_MOST);
     assert_eq!(answers, (REVISIONS * LEAF_BYTES, PATH_HASHES * HASH_BYTES));
     assert_eq!(refile::REPORT_MOST, REPORT_MOST);
-    assert_eq!(refile::VERSION, 2_000);
+    assert_eq!(refile::VERSION, 3_000);
 }
 
 #[test]
@@ -188,6 +188,10 @@ fn refusals_are_those_of_the_header() {
         ("IMAGE_SEQUENCE", Refusal::ImageSequence { place: 0 }),
         ("IMAGE_ROW", Refusal::ImageRow { place: 0 }),
         ("IMAGE_PARENT", Refusal::ImageParent { place: 0 }),
+        ("NOT_JSON", Refusal::NotJson),
+        ("BAD_MEMBER", Refusal::BadMember),
+        ("OTHER_REVISIONS", Refusal::OtherRevisions),
+        ("UNWRITABLE_ID", Refusal::UnwritableId),
     ];
     let house = [
         ("BAD_REPLICA", 100),
@@ -207,7 +211,7 @@ fn refusals_are_those_of_the_header() {
         ("LIVE", 1),
         ("DELETED", 2),
         ("VERSION_MAJOR", 0),
-        ("VERSION_MINOR", 2),
+        ("VERSION_MINOR", 3),
         ("VERSION_PATCH", 0),
     ];
     let expected = refusals.map(|(name, refusal)| (name, refusal.number() as usize));
@@ -231,7 +235,7 @@ fn texts_are_those_of_the_header() {
         assert_eq!(text.unwrap_or(unknown), lines[number as usize], "{number}");
         known += usize::from(text.is_some());
     }
-    assert_eq!(known, 29);
+    assert_eq!(known, 33);
     let refused = Refusal::ImageRow { place: 7 };
     assert_eq!(
         refused.to_string(),

@@ -162,6 +162,9 @@ fn line(step: &Step) -> Line {
         Step::UpdateSequence { at } => Line::new(13, *at),
         Step::Counts { at } => Line::new(14, *at),
         Step::Report { image, .. } => Line::new(15, 0).runs(image, &[]),
+        Step::TakeIn { .. } | Step::PutOut { .. } | Step::PutOutSize { .. } => {
+            panic!("the program has no step for lines: {step}")
+        }
     };
     line.runs[2] = step.room().map(buffer).unwrap_or_default();
     line

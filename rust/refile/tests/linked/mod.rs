@@ -61,6 +61,13 @@ impl refile_model::Replica for Linked {
         }
     }
 
+    fn take_in(&mut self, line: &[u8]) -> Result<bool, Refusal> {
+        match self.0.take_in(line) {
+            Ok(written) => Ok(written == Written::Changed),
+            Err(refused) => Err(refusal(refused)),
+        }
+    }
+
     fn edit(
         &mut self,
         id: &[u8],
@@ -85,6 +92,14 @@ impl refile_model::Replica for Linked {
 
     fn path(&self, id: &[u8], number: u32, hash: [u8; 16], out: &mut [u8]) -> Result<u32, Refusal> {
         count(self.0.path_into(id, Revision::new(number, hash), out))
+    }
+
+    fn put_out(&self, id: &[u8], out: &mut [u8]) -> Result<u32, Refusal> {
+        count(self.0.put_out_into(id, out))
+    }
+
+    fn put_out_size(&self, id: &[u8]) -> Result<u32, Refusal> {
+        count(self.0.put_out_size(id))
     }
 
     fn missing(&self, id: &[u8], asked: &[u8], out: &mut [u8]) -> Result<u32, Refusal> {
