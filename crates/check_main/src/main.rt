@@ -1,5 +1,7 @@
 // Check: reads an image from standard input and writes its report to standard output. It opens no file
 // and changes none. The report's text is promised by the crate report; only reading and writing are not.
+#![tactic(auto)]
+
 ghost use Rattle.std.specs.Prelude.{◌≡◌, ◌≤◌, length};
 ghost use Rattle.rules.specs.Report.{input_most};
 ghost use Rattle.check_main.specs.Input.{Fits, Within};

@@ -2,6 +2,8 @@
 // whether bytes are such a buffer.
 // Head, entries and rows are copied as bytes: only the places of the entries differ between an image
 // and a buffer. It uses the crates rules, octets, layout, store and faults, and the laws of the crate images.
+#![tactic(auto)]
+
 ghost use Rattle.std.specs.Prelude.{◌≡◌, length};
 ghost use Rattle.rules.specs.Image.{save, replica_in};
 ghost use Rattle.rules.specs.Layout.{head_size};

@@ -28,8 +28,8 @@ use Rattle.rules.specs.Replica.{Id, Tree, Replica, IsTree, fresh, tree_of}
 use Rattle.rules.specs.Union.{In, held, IsUnion, SameButSeq}
 use Rattle.rules.specs.Union as union
 use Rattle.rules.specs.Write.{Write, write}
-use Rattle.json.specs.Members.{line_of}
-use Rattle.json.specs.Rfc.{line}
+use Rattle.json_text.specs.Members.{line_of}
+use Rattle.json_text.specs.Rfc.{line}
 use Rattle.lines.specs.Put.{leaf_line, lines_text, put_refusals, put_out, put_out_size}
 use Rattle.lines.specs.Take.{Members, Holds, unwritable, take_in, TakesIn}
 use Rattle.lines.specs.Unknown.{ours}

@@ -1,6 +1,8 @@
 // Edits: the ordinary edit, over a replica in a lent buffer.
 // It finds the parent and decides the refusals that are an edit's own; the rest is the path write. It
 // uses the crates rules, octets, union, tree, store and writes.
+#![tactic(auto)]
+
 ghost use Rattle.std.specs.Prelude.{◌≡◌, ◌*◌, length};
 ghost use Rattle.rules.specs.Room.{hash_size};
 ghost use Rattle.store.specs.Storage.{IsStored};

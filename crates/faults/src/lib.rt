@@ -1,6 +1,8 @@
 // Faults: what is wrong with the bytes of an image, and where: the refusals 20 to 26.
 // It takes every input of every length and writes nothing. It uses the crates rules, octets and layout, and
 // the laws of the crate images. Rows are searched by the crate tree.
+#![tactic(auto)]
+
 ghost use Rattle.std.specs.Prelude.{◌≡◌};
 ghost use Rattle.rules.specs.Choice.{first_that};
 ghost use Rattle.rules.specs.Faults.{faults};

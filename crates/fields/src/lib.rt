@@ -1,6 +1,8 @@
 // Fields: what the texts of a line's members say, read from a slice that holds exactly the text.
 // Names, numbers, hashes and revisions; nothing is decoded but hex. It uses the crates rules, octets
 // and lines.
+#![tactic(auto)]
+
 ghost use Rattle.std.specs.Prelude.{◌≡◌, true, map, ◌+◌, ◌-◌, ◌<◌, ◌≤◌, length};
 ghost use Rattle.rules.specs.Choice.{pick};
 ghost use Rattle.rules.specs.Room.{hash_size};

@@ -1,6 +1,8 @@
 // Layout: where each field of a head, an entry and a row stands, and each field read and written.
 // An image and a replica's buffer have the same parts; a buffer keeps room for all of them. It uses the
 // crates rules and octets.
+#![tactic(auto)]
+
 use rules::{DOCUMENTS, HASH, ID_MOST, REVISIONS};
 
 pub mod entry;

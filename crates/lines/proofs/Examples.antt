@@ -22,12 +22,12 @@ use Rattle.rules.specs.Report.{digits, trim, decimal, hex_digit, hex, text, rev_
 use Rattle.rules.specs.Write.{hashes, along, gives, add_all, added, is_new, is_new_parent, count_new, count_parents, adds, bad_id}
 use Rattle.rules.specs.Write.{bad_path, low_number, other_parent, other_content, documents_full, revisions_full, sequence_spent, room_refusals, write_refusals, write}
 use Rattle.rules.proofs.OrderLaws.{order_bytes_same}
-use Rattle.json.specs.Grammar as grammar
-use Rattle.json.specs.Grammar.{ws}
-use Rattle.json.specs.Members.{line_of}
-use Rattle.json.specs.Rfc.{line}
-use Rattle.json.specs.Skips.{WsTo}
-use Rattle.json.proofs.WsLaws.{white_no}
+use Rattle.json_text.specs.Grammar as grammar
+use Rattle.json_text.specs.Grammar.{ws}
+use Rattle.json_text.specs.Members.{line_of}
+use Rattle.json_text.specs.Rfc.{line}
+use Rattle.json_text.specs.Skips.{WsTo}
+use Rattle.json_text.proofs.WsLaws.{white_no}
 use Rattle.values.proofs.RfcLaws.{line_from_rfc}
 use Rattle.values.proofs.ValueLaws.{line_no_brace}
 use Rattle.lines.specs.Said.{each, all, quoted, but_last, unquote, of_string, of_plain, is_name, named, is_digit, decimal_from, decimal_value, spare_zero, read_number}

@@ -7,11 +7,11 @@ use mathlib.Core.Option.{Option, none, some}
 use Prim.Native.Nat.{ℕ, zero, suc}
 use lib.Dec.{eqb, leb}
 use borrow.Author.Tests.{leb-true, eqb-true}
-use Rattle.json.specs.Grammar as grammar
-use Rattle.json.specs.Grammar.{Rule, byte, range, ◌then◌, ◌or◌, option, many, white, ws, tail, utf8_two, utf8_three, utf8_four, utf8, unescaped, simple, hex, char, string}
-use Rattle.json.specs.Grammar.{literal, digit, int, frac, exp, number, scalar}
-use Rattle.json.specs.Members.{plain, object, array, Json, spelt, others, items, memberOf, objectOf, array_of, form_of, value_of, line_of}
-use Rattle.json.specs.Tight.{begin_array, end_array, begin_object, end_object, name_separator, value_separator}
+use Rattle.json_text.specs.Grammar as grammar
+use Rattle.json_text.specs.Grammar.{Rule, byte, range, ◌then◌, ◌or◌, option, many, white, ws, tail, utf8_two, utf8_three, utf8_four, utf8, unescaped, simple, hex, char, string}
+use Rattle.json_text.specs.Grammar.{literal, digit, int, frac, exp, number, scalar}
+use Rattle.json_text.specs.Members.{plain, object, array, Json, spelt, others, items, memberOf, objectOf, array_of, form_of, value_of, line_of}
+use Rattle.json_text.specs.Tight.{begin_array, end_array, begin_object, end_object, name_separator, value_separator}
 
 -- ---- rules
 

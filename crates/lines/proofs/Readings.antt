@@ -18,7 +18,7 @@ use Rattle.rules.specs.Write.{bad_path, low_number, other_parent, other_content,
 use Rattle.rules.specs.Answer.{Numbered, accepted, refused, written_number, answered_number}
 use Rattle.rules.specs.Report.{text, decimal, digits, trim, hex, hex_digit, rev_text}
 use Rattle.rules.specs.Examples.{lot, on}
-use Rattle.json.specs.Members.{Form, plain, object, array, Json}
+use Rattle.json_text.specs.Members.{Form, plain, object, array, Json}
 use Rattle.lines.specs.Said.{each, all, quoted, but_last, unquote, of_string, of_plain, is_name, named, is_digit, decimal_from, decimal_value, spare_zero, read_number, is_hex_digit, hex_digit_value, hex_value, read_hash, before_dash, after_dash, read_rev}
 use Rattle.lines.specs.Take.{Members, read_ids, read_revisions, optional, read_true, read_label, read_content, read_line, other_revisions, is_writable, unwritable, as_write, line_refusals, take_in}
 use Rattle.lines.specs.Put.{member_text, and_more, listed, ids_text, revisions_text, content_text, leaf_line, lines_text, put_refusals, put_out, put_out_size}

@@ -8,17 +8,17 @@ use native.Mathlib.Numerals.{sub-one}
 use lib.ListN.{length, get_or, drop}
 use Rattle.rules.specs.Choice.{any}
 use Rattle.rules.specs.Report.{text}
-use Rattle.json.specs.Grammar as grammar
-use Rattle.json.specs.Grammar.{◌then◌, option, ws, string, int, frac, exp, number}
-use Rattle.json.specs.Rfc as rfc
-use Rattle.json.specs.Skips.{WsTo, EndsAt, NoText, Not}
-use Rattle.json.specs.declared.Skip.TheVariants.{Wrong}
-use Rattle.json.specs.Tight.{begin_array, end_array, begin_object, end_object, array, member, object, value, line}
-use Rattle.json.proofs.WsLaws.{white_no, stands}
-use Rattle.json.proofs.ListLaws.{Dark, Listed, closes_array, closes_object, list_none, list_first, list_no_item}
-use Rattle.json.proofs.NumberLaws.{digit_yes, end_nodigit, frac_none, int_zero, number_plain}
-use Rattle.json.proofs.StepLaws.{skips_runs, skips_goes}
-use Rattle.json.proofs.ScalarLaws.{scalar_number}
+use Rattle.json_text.specs.Grammar as grammar
+use Rattle.json_text.specs.Grammar.{◌then◌, option, ws, string, int, frac, exp, number}
+use Rattle.json_text.specs.Rfc as rfc
+use Rattle.json_text.specs.Skips.{WsTo, EndsAt, NoText, Not}
+use Rattle.json_text.specs.declared.Skip.TheVariants.{Wrong}
+use Rattle.json_text.specs.Tight.{begin_array, end_array, begin_object, end_object, array, member, object, value, line}
+use Rattle.json_text.proofs.WsLaws.{white_no, stands}
+use Rattle.json_text.proofs.ListLaws.{Dark, Listed, closes_array, closes_object, list_none, list_first, list_no_item}
+use Rattle.json_text.proofs.NumberLaws.{digit_yes, end_nodigit, frac_none, int_zero, number_plain}
+use Rattle.json_text.proofs.StepLaws.{skips_runs, skips_goes}
+use Rattle.json_text.proofs.ScalarLaws.{scalar_number}
 use Rattle.values.proofs.OnlyLaws.{alone_string}
 use Rattle.values.proofs.RfcLaws.{line_from_rfc}
 use Rattle.values.proofs.ValueLaws.{value_too_deep, skips_array, skips_scalar, value_headed, member_headed, member_goes, line_no_object, line_more}

@@ -25,9 +25,9 @@ use Rattle.rules.specs.Union.{In}
 use Rattle.rules.specs.Write.{parent_in, write}
 use Rattle.rules.proofs.OrderLaws.{order_bytes_self}
 use Rattle.union.proofs.Winners.{leaf_content}
-use Rattle.json.specs.Grammar as grammar
-use Rattle.json.specs.Grammar.{byte, ◌then◌, ◌or◌, white, ws, scalar}
-use Rattle.json.specs.Members.{Form, plain, object, array, Json, memberOf, form_of, value_of, line_of, spelt}
+use Rattle.json_text.specs.Grammar as grammar
+use Rattle.json_text.specs.Grammar.{byte, ◌then◌, ◌or◌, white, ws, scalar}
+use Rattle.json_text.specs.Members.{Form, plain, object, array, Json, memberOf, form_of, value_of, line_of, spelt}
 use Rattle.lines.specs.Said.{each, quote, quoted, but_last, unquote, of_string, of_plain, is_name, named, read_hash, read_rev}
 use Rattle.lines.specs.Take.{Members, read_ids, read_revisions, optional, read_true, read_label, read_content, Line, read_line}
 use Rattle.lines.specs.Take.{other_revisions, unwritable, is_writable, as_write, line_refusals, take_in, TakesIn}

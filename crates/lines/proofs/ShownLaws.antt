@@ -13,11 +13,11 @@ use Rattle.rules.specs.Choice.{pick, any}
 use Rattle.rules.specs.Report.{text}
 use Rattle.rules.proofs.ChoiceLaws.{or_left, or_right}
 use Rattle.rules.proofs.MapLaws.{none≢some}
-use Rattle.json.specs.Grammar as grammar
-use Rattle.json.specs.Grammar.{Rule, byte, range, ◌then◌, ◌or◌, option, many, ws, unescaped, char, string, literal, digit, int, number, scalar}
-use Rattle.json.specs.Members.{spelt, others, items, memberOf, objectOf, array_of}
-use Rattle.json.specs.Tight.{begin_array, end_array, begin_object, end_object, name_separator, value_separator}
-use Rattle.json.proofs.WsLaws.{lt_or_ge}
+use Rattle.json_text.specs.Grammar as grammar
+use Rattle.json_text.specs.Grammar.{Rule, byte, range, ◌then◌, ◌or◌, option, many, ws, unescaped, char, string, literal, digit, int, number, scalar}
+use Rattle.json_text.specs.Members.{spelt, others, items, memberOf, objectOf, array_of}
+use Rattle.json_text.specs.Tight.{begin_array, end_array, begin_object, end_object, name_separator, value_separator}
+use Rattle.json_text.proofs.WsLaws.{lt_or_ge}
 use Rattle.lines.specs.Said.{all, quote, quoted, is_digit, is_empty, spare_zero, decimal_value, read_number, is_hex_digit, hex_value, read_hash}
 use Rattle.lines.specs.Take.{is_writable, unwritable}
 use Rattle.lines.specs.Put.{member_text, and_more, listed}

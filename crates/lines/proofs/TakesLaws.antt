@@ -26,7 +26,7 @@ use Rattle.rules.proofs.ChoiceLaws.{or_left, or_right, none_holds}
 use Rattle.rules.proofs.MapLaws.{none≢some, some_inj}
 use Rattle.union.proofs.Cases.{write_refused}
 use Rattle.union.proofs.Keeps.{write_keeps}
-use Rattle.json.specs.Members.{Form, plain, object, array}
+use Rattle.json_text.specs.Members.{Form, plain, object, array}
 use Rattle.values.proofs.ReadingLaws.{line_one, reads_rfc}
 use Rattle.lines.specs.Said.{both, each, once, unquote, plain_text, of_string, of_plain, named, read_number, read_hash, before_dash, after_dash, read_rev}
 use Rattle.lines.specs.Take.{Members, Holds, Revisions, read_ids, read_revisions, optional, read_true, read_label, read_content, Line, all_said, read_line}

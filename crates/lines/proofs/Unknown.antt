@@ -18,8 +18,8 @@ use Rattle.rules.specs.Union.{In}
 use Rattle.rules.specs.Write.{Write, room_refusals, write_refusals, settle, write}
 use Rattle.rules.proofs.ChoiceLaws.{or_left, or_right, first_holds}
 use Rattle.union.proofs.Cases.{refused_by}
-use Rattle.json.specs.Rfc.{line}
-use Rattle.json.specs.Members.{Form, object, Json, line_of}
+use Rattle.json_text.specs.Rfc.{line}
+use Rattle.json_text.specs.Members.{Form, object, Json, line_of}
 use Rattle.values.proofs.ReadingLaws.{reads_rfc}
 use Rattle.lines.specs.Said.{is_name, named}
 use Rattle.lines.specs.Take.{Members, Holds, read_revisions, Line, read_line, other_revisions, unwritable, as_write, line_refusals, take_in, TakesIn}

@@ -8,7 +8,7 @@ use Rattle.rules.specs.Order.{order_bytes, is_equal}
 use Rattle.rules.specs.Replica.{Hash, revision}
 use Rattle.rules.specs.Report.{text}
 use Rattle.rules.specs.Room.{hash_size, number_most}
-use Rattle.json.specs.Members.{Form, plain, object, array}
+use Rattle.json_text.specs.Members.{Form, plain, object, array}
 
 -- ---- choosing
 

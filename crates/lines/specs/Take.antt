@@ -16,8 +16,8 @@ use Rattle.rules.specs.Replica.{Id, Hash, Replica}
 use Rattle.rules.specs.Report.{text}
 use Rattle.rules.specs.Room.{number_most, labels}
 use Rattle.rules.specs.Write.{Write, is_none, settle, write}
-use Rattle.json.specs.Rfc.{line}
-use Rattle.json.specs.Members.{Form, plain, object, array, Json, line_of}
+use Rattle.json_text.specs.Rfc.{line}
+use Rattle.json_text.specs.Members.{Form, plain, object, array, Json, line_of}
 use Rattle.lines.specs.Said.{both, each, once, of_string, of_plain, named, read_number, read_hash, read_rev}
 
 -- the members of a line, as written

@@ -2,6 +2,8 @@
 // Every leaf of the source's documents after a sequence is offered to the target with its whole known
 // path, and what became of each offer is counted. It uses the crates rules, octets, union, tree,
 // store, reads and writes.
+#![tactic(auto)]
+
 ghost use Rattle.std.specs.Prelude.{◌≡◌, ◌<◌};
 ghost use Rattle.rules.specs.declared.Refusal.{Refusal};
 ghost use Rattle.rules.specs.Pull.{offer, offers_of, count};

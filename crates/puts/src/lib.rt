@@ -1,6 +1,8 @@
 // Puts: a document's leaves put out as lines of JSON, into a buffer that the caller lends.
 // It uses the crates rules, text, tree, store, lines and fields, and the laws of the crates octets, union and
 // reads.
+#![tactic(auto)]
+
 mod line;
 mod size;
 mod words;

@@ -1,6 +1,8 @@
 // Refile: what a service links. Each function checks what only this boundary can get, calls the proved
 // library, and turns its answer into one number. include/refile.h documents every call.
 // It uses every crate below; above it stands only demands, which has theorems about these calls and no code.
+#![tactic(auto)]
+
 mod about;
 mod answer;
 pub mod change;

@@ -1,6 +1,8 @@
 // Report: what the check program prints for the bytes of an image.
 // It takes every input of every length. It uses the crates rules, octets, layout, tree, store, text,
 // faults and codec, and the laws of the crates images, union and reads.
+#![tactic(auto)]
+
 mod line;
 mod words;
 

@@ -1,6 +1,8 @@
 // Rules: the words that every other crate speaks.
 // It holds the values that pass between the crates, the limits and the refusals, and under specs/
 // what they mean: the definitions that every promise cites. It uses no other crate.
+#![tactic(auto)]
+
 
 // The room: what a replica holds at most, and what one path holds at most. All other sizes follow.
 pub const DOCUMENTS: usize = 32;

@@ -15,9 +15,9 @@ use Rattle.rules.specs.Replica.{Hash}
 use Rattle.rules.specs.Room.{hash_size}
 use Rattle.rules.specs.Write.{is_none}
 use Rattle.octets.specs.Splice.{splice}
-use Rattle.json.specs.Members.{Form, plain, Json, value_of}
-use Rattle.json.specs.Grammar.{string}
-use Rattle.json.specs.Skips.{OnlyAt}
+use Rattle.json_text.specs.Members.{Form, plain, Json, value_of}
+use Rattle.json_text.specs.Grammar.{string}
+use Rattle.json_text.specs.Skips.{OnlyAt}
 use Rattle.values.specs.Reading.{ItemAt}
 use Rattle.values.proofs.ReadingLaws.{reads_value}
 use Rattle.values.proofs.TextLaws.{value_text}

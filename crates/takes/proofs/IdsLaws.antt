@@ -11,8 +11,8 @@ use Rattle.rules.specs.Replica.{Hash}
 use Rattle.rules.specs.Room.{hash_size, hashes_most}
 use Rattle.rules.specs.Write.{is_none}
 use Rattle.octets.specs.Splice.{splice}
-use Rattle.json.specs.Grammar.{◌then◌}
-use Rattle.json.specs.Members.{Form, Json, array_of, value_of}
+use Rattle.json_text.specs.Grammar.{◌then◌}
+use Rattle.json_text.specs.Members.{Form, Json, array_of, value_of}
 use Rattle.values.specs.declared.Opened.{Opened}
 use Rattle.values.specs.declared.Opened.TheVariants as opened
 use Rattle.values.specs.declared.After.{After}

@@ -10,7 +10,7 @@ use borrow.Author.Tests.{lt-ltb}
 use lib.Dec.{eqb, ltb}
 use lib.ListN.{length, take, drop, length-append, length-take}
 use lib.Seq.{length-take-le, take-append-le, take-append-add, take-take}
-use Rattle.json.proofs.WsLaws.{lt_or_ge}
+use Rattle.json_text.proofs.WsLaws.{lt_or_ge}
 use Rattle.rules.specs.declared.Content.{Content}
 use Rattle.rules.specs.declared.Refusal.TheVariants.{BadId, BadPath}
 use Rattle.rules.specs.declared.RevNumber.{RevNumber}

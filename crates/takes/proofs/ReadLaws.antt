@@ -12,13 +12,13 @@ use lib.ListN.{length, take, drop, get_or}
 use Rattle.rules.specs.Choice.{pick, maybe}
 use Rattle.rules.specs.Replica.{Hash}
 use Rattle.rules.specs.Room.{number_most}
-use Rattle.json.specs.declared.Skip.{Skip}
-use Rattle.json.specs.declared.Skip.TheVariants.{To, Wrong}
-use Rattle.json.specs.Tight.{value, array, object}
-use Rattle.json.specs.Members.{Form, plain, Json, objectOf, array_of, value_of}
-use Rattle.json.specs.Skips.{Ends, EndsAt, WholeAt, NoText, Placed, Whether}
-use Rattle.json.proofs.WsLaws.{at_byte, byte_at}
-use Rattle.json.proofs.CharLaws.{exact_skips}
+use Rattle.json_text.specs.declared.Skip.{Skip}
+use Rattle.json_text.specs.declared.Skip.TheVariants.{To, Wrong}
+use Rattle.json_text.specs.Tight.{value, array, object}
+use Rattle.json_text.specs.Members.{Form, plain, Json, objectOf, array_of, value_of}
+use Rattle.json_text.specs.Skips.{Ends, EndsAt, WholeAt, NoText, Placed, Whether}
+use Rattle.json_text.proofs.WsLaws.{at_byte, byte_at}
+use Rattle.json_text.proofs.CharLaws.{exact_skips}
 use Rattle.values.specs.Reading.{ListAt, NoList}
 use Rattle.values.proofs.ValueLaws.{skips_array, skips_object, value_object}
 use Rattle.values.proofs.ItemLaws.{object_text, array_text, no_object_text}

@@ -22,8 +22,8 @@ use Rattle.rules.proofs.OrderLaws.{order_bytes_same, order_bytes_self, less≢eq
 use Rattle.octets.specs.Octets.{HashPut}
 use Rattle.octets.proofs.ByteOrderLaws.{differ}
 use Rattle.octets.proofs.SpliceLaws.{length-splice}
-use Rattle.json.specs.Members.{Form, plain, Json}
-use Rattle.json.proofs.WsLaws.{byte_at}
+use Rattle.json_text.specs.Members.{Form, plain, Json}
+use Rattle.json_text.proofs.WsLaws.{byte_at}
 use Rattle.lines.specs.Take.{Revisions, read_revisions, optional, other_revisions}
 use Rattle.takes.specs.declared.Spot.{Spot}
 use Rattle.takes.specs.declared.Spot.TheVariants.{Absent, Once, Repeated}

@@ -13,7 +13,7 @@ use Rattle.rules.specs.declared.Content.TheVariants.{Live, Deleted}
 use Rattle.rules.specs.Choice.{pick, maybe}
 use Rattle.rules.specs.Order.{order_bytes, order_n, is_equal}
 use Rattle.rules.specs.Report.{text}
-use Rattle.json.specs.Members.{Form, Json}
+use Rattle.json_text.specs.Members.{Form, Json}
 use Rattle.lines.specs.Said.{once, of_string, of_plain, read_number, all, is_digit, is_empty}
 use Rattle.lines.specs.Take.{read_true, read_label, read_content}
 use Rattle.takes.specs.declared.Spot.{Spot}

@@ -11,7 +11,7 @@ use denote.Enum.Declared.{tag_of}
 use types.Run.{OneOf}
 use lib.Dec.{eqb}
 use Rattle.rules.specs.Choice.{pick}
-use Rattle.json.specs.Members.{Json}
+use Rattle.json_text.specs.Members.{Json}
 use Rattle.lines.specs.Said.{is_name, named}
 use Rattle.takes.specs.declared.Spot.{Spot}
 use Rattle.takes.specs.declared.Spot.TheVariants.{Absent, Once, Repeated}

@@ -21,8 +21,8 @@ use Rattle.rules.specs.Replica.{Id, Hash, Replica}
 use Rattle.rules.specs.Room.{hash_size}
 use Rattle.rules.specs.Write.{Write, write}
 use Rattle.store.specs.Storage.{stored, replica_of, IsStored}
-use Rattle.json.specs.Members.{Form, Json}
-use Rattle.json.specs.Rfc.{line}
+use Rattle.json_text.specs.Members.{Form, Json}
+use Rattle.json_text.specs.Rfc.{line}
 use Rattle.lines.specs.Said.{once, of_string, named, read_rev}
 use Rattle.lines.specs.Take.{Members, Revisions, Line, Holds, optional, read_revisions, read_content, all_said, read_line, other_revisions, unwritable, path_said, as_write, line_refusals, take_in}
 use Rattle.fields.specs.declared.RevSaid.{RevSaid}
@@ -42,7 +42,7 @@ use Rattle.takes.specs.declared.Outer.{Outer}
 use Rattle.takes.specs.declared.OuterWalk.{OuterWalk}
 use Rattle.takes.specs.declared.OuterWalk.TheVariants as outer
 use Rattle.values.proofs.LineLaws.{no_brace, no_object, line_holds, no_end}
-use Rattle.json.specs.Skips.{WsTo}
+use Rattle.json_text.specs.Skips.{WsTo}
 use Rattle.takes.specs.declared.Walked.{Walked}
 use Rattle.takes.specs.Spots.{SpotIs, SpotsAre, AllFit, Fits, string_in, part_text, content_in, content_said}
 use Rattle.takes.specs.Walk.{LineIs, Passes}

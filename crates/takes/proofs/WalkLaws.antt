@@ -4,11 +4,11 @@ use mathlib.Core.Path.{◌≡◌, refl, sym, ap, ◌∙◌, subst}
 use Prim.Native.Nat.{ℕ, ◌+◌, ◌-◌, ◌≤◌, ◌<◌}
 use native.Mathlib.Omega.{arith}
 use lib.ListN.{length, take, drop, get_or}
-use Rattle.json.specs.Tight.{value}
-use Rattle.json.specs.Members.{Json, memberOf, objectOf, value_of}
-use Rattle.json.specs.declared.Skip.{Skip}
-use Rattle.json.specs.declared.Skip.TheVariants.{To, Wrong}
-use Rattle.json.specs.Skips.{WsTo, Placed}
+use Rattle.json_text.specs.Tight.{value}
+use Rattle.json_text.specs.Members.{Json, memberOf, objectOf, value_of}
+use Rattle.json_text.specs.declared.Skip.{Skip}
+use Rattle.json_text.specs.declared.Skip.TheVariants.{To, Wrong}
+use Rattle.json_text.specs.Skips.{WsTo, Placed}
 use Rattle.values.specs.declared.Opened.{Opened}
 use Rattle.values.specs.declared.Opened.TheVariants as opened
 use Rattle.values.specs.declared.After.{After}

@@ -10,7 +10,7 @@ use Rattle.rules.specs.Replica.{Hash}
 use Rattle.rules.specs.Room.{hash_size, hashes_most}
 use Rattle.rules.specs.Write.{is_none}
 use Rattle.octets.specs.Splice.{splice}
-use Rattle.json.specs.Members.{Form, Json, array_of, value_of}
+use Rattle.json_text.specs.Members.{Form, Json, array_of, value_of}
 use Rattle.values.specs.Reading.{ListAt}
 use Rattle.lines.specs.Said.{each, once, of_string, read_hash, quote}
 use Rattle.lines.specs.Take.{Revisions, read_ids, read_revisions, optional, other_revisions}

@@ -4,10 +4,10 @@ use Rattle.std.proofs.Math.Option.{Option, none, some}
 use Rattle.rules.specs.Choice.{pick, maybe}
 use Rattle.rules.specs.Replica.{Hash}
 use Rattle.rules.specs.Room.{number_most}
-use Rattle.json.specs.Rfc.{line}
-use Rattle.json.specs.Tight.{value}
-use Rattle.json.specs.Members.{Json, objectOf, value_of}
-use Rattle.json.specs.Skips.{Placed}
+use Rattle.json_text.specs.Rfc.{line}
+use Rattle.json_text.specs.Tight.{value}
+use Rattle.json_text.specs.Members.{Json, objectOf, value_of}
+use Rattle.json_text.specs.Skips.{Placed}
 use Rattle.values.specs.Reading.{NoList}
 use Rattle.lines.specs.Said.{read_number}
 use Rattle.lines.specs.Take.{Revisions, read_revisions}

@@ -3,7 +3,7 @@ use Rattle.std.specs.Prelude.{Bool, true, false, List, [], ◌∷◌, ◌≡◌,
 use Rattle.std.proofs.Math.Option.{Option, none, some}
 use Rattle.rules.specs.Choice.{pick}
 use Rattle.rules.specs.declared.Content.{Content}
-use Rattle.json.specs.Members.{Json, value_of}
+use Rattle.json_text.specs.Members.{Json, value_of}
 use Rattle.lines.specs.Said.{quote, named}
 use Rattle.lines.specs.Take.{read_true, read_label}
 use Rattle.takes.specs.declared.Spot.{Spot}

@@ -1,9 +1,9 @@
 -- What a walk over the members of an object knows.
 use Rattle.std.specs.Prelude.{List, [], ◌≡◌, ℕ, ◌+◌, get_or}
-use Rattle.json.specs.Grammar.{string}
-use Rattle.json.specs.Tight.{member, value}
-use Rattle.json.specs.Members.{Json, objectOf, value_of, line_of}
-use Rattle.json.specs.Skips.{WsTo, OnlyAt, NoText}
+use Rattle.json_text.specs.Grammar.{string}
+use Rattle.json_text.specs.Tight.{member, value}
+use Rattle.json_text.specs.Members.{Json, objectOf, value_of, line_of}
+use Rattle.json_text.specs.Skips.{WsTo, OnlyAt, NoText}
 use Rattle.values.specs.Reading.{ListAt}
 use Rattle.lines.specs.Take.{Members}
 use Rattle.takes.specs.declared.Name.{Name}

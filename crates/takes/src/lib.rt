@@ -1,7 +1,9 @@
 // Takes: one line taken in as a path write, into a replica in a lent buffer.
 // The line is read in place, and passed over once. That walk decides 40, keeps where the values of our
 // members stand, and lays the hashes of the path down on its way, once, for the write; what stands there
-// decides 41 to 43. It uses the crates rules, octets, writes, json, values, lines and fields.
+// decides 41 to 43. It uses the crates rules, octets, writes, json_text, values, lines and fields.
+#![tactic(auto)]
+
 ghost use Rattle.std.specs.Prelude.{◌≡◌, ℕ, ◌+◌, ◌-◌, ◌≤◌, ◌<◌, eqb, length, get_or};
 ghost use Rattle.std.proofs.Math.Option.{none};
 ghost use Rattle.rules.specs.Choice.{maybe};
@@ -17,7 +19,7 @@ ghost use Rattle.takes.specs.Read.{IdsPassed, IdsValued, InnerWalks, revs_in, Re
 ghost use Rattle.takes.specs.Took.{Left, written, CanTake, TakesRest, TakesSpots, Took};
 
 use fields::{NumberSaid, is_true, is_unwritable, read_number, read_rev, which_name};
-use json::{Skip, can_end, peek, skip_string, skip_ws};
+use json_text::{Skip, can_end, peek, skip_string, skip_ws};
 use octets::number::lesser;
 use octets::order::same_bytes;
 use rules::{Content, HASH, PATH_HASHES, Refusal, Revision, Written};

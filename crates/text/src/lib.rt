@@ -1,5 +1,7 @@
 // Text: words, decimal numbers and hex written into a slice that the caller lends.
 // Each function answers the place after what it wrote. It uses the crates rules and octets.
+#![tactic(auto)]
+
 ghost use Rattle.std.specs.Prelude.{◌≡◌, ◌+◌, ◌*◌, ◌<◌, ◌≤◌, length};
 ghost use Rattle.rules.specs.Report.{decimal, hex, hex_digit, rev_text};
 ghost use Rattle.text.specs.Text.{rev_most, Put, PutWithin};

@@ -2,3 +2,5 @@
 // and pulls leave is the union of what was given and held, and one document's write changes no
 // other. It uses rules and has no code: specs/Said.antt has what the theorems say beyond rules, and
 // proofs/Demand3.antt the theorems.
+#![tactic(auto)]
+

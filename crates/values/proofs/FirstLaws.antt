@@ -5,14 +5,14 @@ use mathlib.Core.Logic.{◌⊎◌, inl, inr}
 use Prim.Native.Nat.{ℕ, suc, ◌+◌, ◌-◌, ◌≤◌, ◌<◌}
 use native.Mathlib.Omega.{arith}
 use lib.ListN.{length, get_or, take, drop, length-append, length-drop}
-use Rattle.json.specs.Grammar.{byte, range, ◌then◌, ◌or◌, many, none, more, unescaped, char, string, scalar}
-use Rattle.json.specs.Tight.{value, object, array}
-use Rattle.json.specs.Members.{Form, plain, Json, spelt, objectOf, array_of, form_of, value_of}
-use Rattle.json.specs.Skips.{OnlyAt}
+use Rattle.json_text.specs.Grammar.{byte, range, ◌then◌, ◌or◌, many, none, more, unescaped, char, string, scalar}
+use Rattle.json_text.specs.Tight.{value, object, array}
+use Rattle.json_text.specs.Members.{Form, plain, Json, spelt, objectOf, array_of, form_of, value_of}
+use Rattle.json_text.specs.Skips.{OnlyAt}
 use Rattle.values.specs.Reading.{ItemAt}
 use lib.Seq.{drop-drop, drop-append_seam, take-append_seam}
-use Rattle.json.proofs.WsLaws.{lt_or_ge, stands, at_byte, byte_at, head_eq, tail_eq}
-use Rattle.json.proofs.ScalarLaws.{literal_first, number_first, string_first, scalar_starts}
+use Rattle.json_text.proofs.WsLaws.{lt_or_ge, stands, at_byte, byte_at, head_eq, tail_eq}
+use Rattle.json_text.proofs.ScalarLaws.{literal_first, number_first, string_first, scalar_starts}
 use Rattle.values.proofs.ValueLaws.{array_first, object_first, starts_not, 91-123}
 use Rattle.values.proofs.TextLaws.{f_many, f_char}
 use Rattle.values.proofs.OnlyLaws.{alone_string}

@@ -5,14 +5,14 @@ use Prim.Native.Nat.{ℕ, ◌+◌, ◌-◌, ◌≤◌}
 use native.Mathlib.Omega.{arith}
 use lib.ListN.{get_or, take, drop, take-append-drop}
 use lib.Seq.{drop-drop}
-use Rattle.json.specs.Grammar.{Rule, byte, ◌then◌, ws, string}
-use Rattle.json.specs.Tight.{name_separator, member, object, array, value}
-use Rattle.json.specs.Members.{Json, spelt, memberOf, objectOf, array_of, value_of}
-use Rattle.json.specs.Skips.{WsTo, Ends, EndsAt, OnlyAt, NoText, WholeAt}
+use Rattle.json_text.specs.Grammar.{Rule, byte, ◌then◌, ws, string}
+use Rattle.json_text.specs.Tight.{name_separator, member, object, array, value}
+use Rattle.json_text.specs.Members.{Json, spelt, memberOf, objectOf, array_of, value_of}
+use Rattle.json_text.specs.Skips.{WsTo, Ends, EndsAt, OnlyAt, NoText, WholeAt}
 use Rattle.values.specs.declared.Member.{Member}
 use Rattle.values.specs.Places.{ClosedAt, FirstAt, MoreAt, NeitherAt, MemberAt}
 use Rattle.values.specs.Reading.{ItemAt, NoItem, Leads, ListAt, NoList, MemberRead}
-use Rattle.json.proofs.WsLaws.{at_byte}
+use Rattle.json_text.proofs.WsLaws.{at_byte}
 use Rattle.values.proofs.ReadingLaws.{Listing, value_reads, reads_value, reads_member, value_one, member_one, object_reads, reads_object, array_reads, reads_array}
 use Rattle.values.proofs.WalkLaws.{list_none, leads_first, leads_more, leads_last, leads_wrong}
 

@@ -4,11 +4,11 @@ use mathlib.Core.List.{List, []}
 use Prim.Native.Nat.{ℕ, ◌≤◌, ◌<◌}
 use native.Mathlib.Omega.{arith}
 use lib.ListN.{length, get_or, drop, drop_of_length-le}
-use Rattle.json.specs.Grammar.{◌then◌, ws}
-use Rattle.json.specs.Tight.{object, value}
-use Rattle.json.specs.Rfc.{line}
-use Rattle.json.specs.Members.{Json, objectOf, value_of, line_of}
-use Rattle.json.specs.Skips.{WsTo, EndsAt, NoText}
+use Rattle.json_text.specs.Grammar.{◌then◌, ws}
+use Rattle.json_text.specs.Tight.{object, value}
+use Rattle.json_text.specs.Rfc.{line}
+use Rattle.json_text.specs.Members.{Json, objectOf, value_of, line_of}
+use Rattle.json_text.specs.Skips.{WsTo, EndsAt, NoText}
 use Rattle.values.specs.Reading.{ListAt, NoList}
 use Rattle.values.proofs.ValueLaws.{line_no_brace, line_no_object, line_more}
 use Rattle.values.proofs.RfcLaws.{line_from_rfc}

@@ -5,14 +5,14 @@ use mathlib.Core.List.{List, [], ◌∷◌}
 use mathlib.Core.Logic.{◌⊎◌, inl, inr}
 use Prim.Native.Nat.{ℕ, zero, suc, ◌≤◌, ◌<◌}
 use native.Mathlib.Omega.{arith}
-use Rattle.json.specs.Grammar.{Rule, byte, range, ◌then◌, ◌or◌, option, many, none, more, some, white, ws, tail, utf8_two, utf8_three, utf8_four, utf8, unescaped, simple, hex, char, string, literal, digit, int, frac, exp, number, scalar}
-use Rattle.json.specs.Tight.{begin_array, end_array, begin_object, end_object, name_separator, value_separator, array, member, object, value}
-use Rattle.json.specs.Skips.{Ends, Follow}
-use Rattle.json.proofs.WsLaws.{head_eq, tail_eq, many_join, ws_only, ws_ends}
-use Rattle.json.proofs.ScalarLaws.{First, int_first, literal_first, number_first, string_first, scalar_starts}
-use Rattle.json.proofs.NumberLaws.{some_only, some_first, ends_no, exp_first, point_not_end, ends_nodigit, end_nodigit, frac_nodigit}
-use Rattle.json.proofs.ListLaws.{Listed, Rest, Closes, closes_array, closes_object, Headed, rest_ends, solid_byte, dark_comma}
-use Rattle.json.proofs.CharLaws.{OneByte, one_hex, one_simple}
+use Rattle.json_text.specs.Grammar.{Rule, byte, range, ◌then◌, ◌or◌, option, many, none, more, some, white, ws, tail, utf8_two, utf8_three, utf8_four, utf8, unescaped, simple, hex, char, string, literal, digit, int, frac, exp, number, scalar}
+use Rattle.json_text.specs.Tight.{begin_array, end_array, begin_object, end_object, name_separator, value_separator, array, member, object, value}
+use Rattle.json_text.specs.Skips.{Ends, Follow}
+use Rattle.json_text.proofs.WsLaws.{head_eq, tail_eq, many_join, ws_only, ws_ends}
+use Rattle.json_text.proofs.ScalarLaws.{First, int_first, literal_first, number_first, string_first, scalar_starts}
+use Rattle.json_text.proofs.NumberLaws.{some_only, some_first, ends_no, exp_first, point_not_end, ends_nodigit, end_nodigit, frac_nodigit}
+use Rattle.json_text.proofs.ListLaws.{Listed, Rest, Closes, closes_array, closes_object, Headed, rest_ends, solid_byte, dark_comma}
+use Rattle.json_text.proofs.CharLaws.{OneByte, one_hex, one_simple}
 use Rattle.values.proofs.ValueLaws.{value_headed, member_headed, array_first, object_first, starts_not, 91-123, dark_colon}
 
 -- one end whatever follows, and one end where a value can end

@@ -1,8 +1,8 @@
 -- Each public function has one outcome. Assumes nothing.
 use mathlib.Core.Path.{refl}
 use Rattle.rules.specs.Outcome.{OneOutcome, nothing}
-use Rattle.json.specs.Tight.{value}
-use Rattle.json.proofs.PlaceLaws.{placed_one_answer}
+use Rattle.json_text.specs.Tight.{value}
+use Rattle.json_text.proofs.PlaceLaws.{placed_one_answer}
 use Rattle.values.proofs.PlaceLaws.{opens_one, follows_one, finds_one}
 use Rattle.values.proofs.value_at.Kinds as value-at
 use Rattle.values.proofs.value_at.Reads as value-at'

@@ -4,13 +4,13 @@ use mathlib.Core.List.{List}
 use Prim.Native.Nat.{ℕ, ◌+◌}
 use native.Mathlib.Omega.{arith}
 use lib.ListN.{get_or}
-use Rattle.json.specs.Grammar.{string}
-use Rattle.json.specs.Tight.{member, value}
-use Rattle.json.specs.Skips.{WsTo, OnlyAt, EndsAt, WholeAt, NoText, Exact, Placed}
-use Rattle.json.specs.declared.Skip.{Skip}
-use Rattle.json.specs.declared.Skip.TheVariants.{To, Wrong}
-use Rattle.json.proofs.CharLaws.{exact_skips}
-use Rattle.json.proofs.PlaceLaws.{ws_place, only_place, whole_place}
+use Rattle.json_text.specs.Grammar.{string}
+use Rattle.json_text.specs.Tight.{member, value}
+use Rattle.json_text.specs.Skips.{WsTo, OnlyAt, EndsAt, WholeAt, NoText, Exact, Placed}
+use Rattle.json_text.specs.declared.Skip.{Skip}
+use Rattle.json_text.specs.declared.Skip.TheVariants.{To, Wrong}
+use Rattle.json_text.proofs.CharLaws.{exact_skips}
+use Rattle.json_text.proofs.PlaceLaws.{ws_place, only_place, whole_place}
 use Rattle.values.specs.declared.Opened.{Opened}
 use Rattle.values.specs.declared.Opened.TheVariants as opened
 use Rattle.values.specs.declared.After.{After}

@@ -5,14 +5,14 @@ use mathlib.Core.List.{List, [], ◌∷◌, append_cancel_right}
 use mathlib.Core.Logic.{inl, inr}
 use Prim.Native.Nat.{ℕ, zero, suc, ◌<◌}
 use native.Mathlib.Omega.{arith}
-use Rattle.json.specs.Grammar.{Rule, byte, ◌then◌, ◌or◌, option, many, none, more, ws, string, scalar}
-use Rattle.json.specs.Tight.{begin_array, end_array, begin_object, end_object, name_separator, value_separator, array, member, object, value, line}
-use Rattle.json.specs.Rfc as rfc
-use Rattle.json.specs.Members.{Form, plain, Json, spelt, others, items, memberOf, objectOf, array_of, form_of, value_of, line_of}
-use Rattle.json.specs.Skips.{Solid, Ends, Follow}
-use Rattle.json.proofs.WsLaws.{head_eq, tail_eq, many_join, ws_only, ws_ends}
-use Rattle.json.proofs.ListLaws.{Headed, solid_byte, Closes, closes_array, closes_object, dark_comma}
-use Rattle.json.proofs.ScalarLaws.{scalar_starts}
+use Rattle.json_text.specs.Grammar.{Rule, byte, ◌then◌, ◌or◌, option, many, none, more, ws, string, scalar}
+use Rattle.json_text.specs.Tight.{begin_array, end_array, begin_object, end_object, name_separator, value_separator, array, member, object, value, line}
+use Rattle.json_text.specs.Rfc as rfc
+use Rattle.json_text.specs.Members.{Form, plain, Json, spelt, others, items, memberOf, objectOf, array_of, form_of, value_of, line_of}
+use Rattle.json_text.specs.Skips.{Solid, Ends, Follow}
+use Rattle.json_text.proofs.WsLaws.{head_eq, tail_eq, many_join, ws_only, ws_ends}
+use Rattle.json_text.proofs.ListLaws.{Headed, solid_byte, Closes, closes_array, closes_object, dark_comma}
+use Rattle.json_text.proofs.ScalarLaws.{scalar_starts}
 use Rattle.values.proofs.ValueLaws.{value_headed, member_headed, array_first, object_first, starts_not, 91-123, dark_colon}
 use Rattle.values.proofs.TextLaws.{f_string, value_text}
 use Rattle.values.proofs.OnlyLaws.{alone_string, value_ended}

@@ -3,11 +3,11 @@
 use mathlib.Core.List.{List}
 use mathlib.Core.Logic.{inl, inr}
 use Prim.Native.Nat.{ℕ, zero, suc}
-use Rattle.json.specs.Grammar.{Rule, byte, ◌then◌, ◌or◌, option, many, none, more, white, ws, string, scalar}
-use Rattle.json.specs.Tight.{member, array, object, value, line, value_separator, name_separator, begin_array, end_array, begin_object, end_object}
-use Rattle.json.specs.Rfc as rfc
-use Rattle.json.proofs.WsLaws.{many_join}
-use Rattle.json.proofs.ListLaws.{Listed}
+use Rattle.json_text.specs.Grammar.{Rule, byte, ◌then◌, ◌or◌, option, many, none, more, white, ws, string, scalar}
+use Rattle.json_text.specs.Tight.{member, array, object, value, line, value_separator, name_separator, begin_array, end_array, begin_object, end_object}
+use Rattle.json_text.specs.Rfc as rfc
+use Rattle.json_text.proofs.WsLaws.{many_join}
+use Rattle.json_text.proofs.ListLaws.{Listed}
 
 -- items between brackets with white space on both sides
 unfoldable RListed : ℕ → ℕ → Rule → Rule

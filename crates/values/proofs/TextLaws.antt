@@ -4,8 +4,8 @@ use mathlib.Core.Path.{◌≡◌, refl, sym, ap, ◌∙◌}
 use mathlib.Core.List.{List, [], ◌∷◌, ◌++◌, append_assoc}
 use mathlib.Core.Logic.{◌⊎◌, inl, inr}
 use Prim.Native.Nat.{ℕ, zero, suc}
-use Rattle.json.specs.Grammar.{Rule, byte, range, ◌then◌, ◌or◌, option, many, none, more, some, white, ws, tail, utf8_two, utf8_three, utf8_four, utf8, unescaped, simple, hex, char, string, literal, digit, int, frac, exp, number, scalar}
-use Rattle.json.specs.Tight.{begin_array, end_array, begin_object, end_object, name_separator, value_separator, array, member, object, value, line}
+use Rattle.json_text.specs.Grammar.{Rule, byte, range, ◌then◌, ◌or◌, option, many, none, more, some, white, ws, tail, utf8_two, utf8_three, utf8_four, utf8, unescaped, simple, hex, char, string, literal, digit, int, frac, exp, number, scalar}
+use Rattle.json_text.specs.Tight.{begin_array, end_array, begin_object, end_object, name_separator, value_separator, array, member, object, value, line}
 
 pub record Framed (P : Rule) (a b : List ℕ) : Type 0 where
   pub text : List ℕ

@@ -7,15 +7,15 @@ use native.Mathlib.Numerals.{sub-one}
 use native.Mathlib.Omega.{arith}
 use lib.ListN.{length, get_or, drop, drop_of_length-le}
 use lib.Seq.{drop-cons}
-use Rattle.json.specs.Grammar.{Rule, byte, ◌then◌, ◌or◌, ws, scalar, string, white}
-use Rattle.json.specs.Tight.{member, array, object, value, begin_array, begin_object, name_separator, line}
-use Rattle.json.specs.Skips.{Not, Solid, WsTo, Ends, Follow, EndsAt, NoText, Skips}
-use Rattle.json.specs.declared.Skip.{Skip}
-use Rattle.json.specs.declared.Skip.TheVariants.{To, Wrong}
-use Rattle.json.proofs.WsLaws.{at_byte, byte_at, head_eq, tail_eq, ws_only, ws_ends}
-use Rattle.json.proofs.StepLaws.{Goes}
-use Rattle.json.proofs.ListLaws.{Dark, solid_byte, Headed}
-use Rattle.json.proofs.ScalarLaws.{Plain, Starts, scalar_starts, string_starts, skips_same}
+use Rattle.json_text.specs.Grammar.{Rule, byte, ◌then◌, ◌or◌, ws, scalar, string, white}
+use Rattle.json_text.specs.Tight.{member, array, object, value, begin_array, begin_object, name_separator, line}
+use Rattle.json_text.specs.Skips.{Not, Solid, WsTo, Ends, Follow, EndsAt, NoText, Skips}
+use Rattle.json_text.specs.declared.Skip.{Skip}
+use Rattle.json_text.specs.declared.Skip.TheVariants.{To, Wrong}
+use Rattle.json_text.proofs.WsLaws.{at_byte, byte_at, head_eq, tail_eq, ws_only, ws_ends}
+use Rattle.json_text.proofs.StepLaws.{Goes}
+use Rattle.json_text.proofs.ListLaws.{Dark, solid_byte, Headed}
+use Rattle.json_text.proofs.ScalarLaws.{Plain, Starts, scalar_starts, string_starts, skips_same}
 
 pub starts_not : {a : List ℕ} {c : ℕ} {b : List ℕ} → Starts a → (Plain c → ⊥) → a ≡ c ∷ b → ⊥
 starts_not t f e = f (rw (head_eq (sym t.is ∙ e)) at t.plain)

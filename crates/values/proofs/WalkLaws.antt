@@ -5,13 +5,13 @@ use mathlib.Core.List.{List, [], ◌∷◌, ◌++◌, append_assoc}
 use Prim.Native.Nat.{ℕ, ◌+◌, ◌<◌}
 use native.Mathlib.Omega.{arith}
 use lib.ListN.{length, get_or, drop}
-use Rattle.json.specs.Grammar.{Rule, byte, ◌then◌, none, ws}
-use Rattle.json.specs.Tight.{value_separator}
-use Rattle.json.specs.Members.{others, items}
-use Rattle.json.specs.Skips.{Solid, WsTo}
+use Rattle.json_text.specs.Grammar.{Rule, byte, ◌then◌, none, ws}
+use Rattle.json_text.specs.Tight.{value_separator}
+use Rattle.json_text.specs.Members.{others, items}
+use Rattle.json_text.specs.Skips.{Solid, WsTo}
 use Rattle.values.specs.Reading.{ItemAt, NoItem, Onward, GoesOn, Leads, ListAt, NoList}
-use Rattle.json.proofs.WsLaws.{stands, at_byte, byte_at, head_eq, tail_eq, many_join, ws_only}
-use Rattle.json.proofs.ListLaws.{Headed, solid_byte, Closes, dark_comma}
+use Rattle.json_text.proofs.WsLaws.{stands, at_byte, byte_at, head_eq, tail_eq, many_join, ws_only}
+use Rattle.json_text.proofs.ListLaws.{Headed, solid_byte, Closes, dark_comma}
 use Rattle.values.proofs.ReadingLaws.{Bracketed, Listing, others_ends}
 
 -- ---- after an item

@@ -1,8 +1,8 @@
 -- What the functions of this crate answer, at places of a text.
 use Rattle.std.specs.Prelude.{◌≡◌, List, ℕ, ◌+◌, get_or}
-use Rattle.json.specs.Grammar.{string}
-use Rattle.json.specs.Tight.{member, value}
-use Rattle.json.specs.Skips.{WsTo, OnlyAt, WholeAt, NoText}
+use Rattle.json_text.specs.Grammar.{string}
+use Rattle.json_text.specs.Tight.{member, value}
+use Rattle.json_text.specs.Skips.{WsTo, OnlyAt, WholeAt, NoText}
 use Rattle.values.specs.declared.Opened.{Opened}
 use Rattle.values.specs.declared.Opened.TheVariants as opened
 use Rattle.values.specs.declared.After.{After}

@@ -1,9 +1,9 @@
 -- What a walk over the items of an object or an array knows of them: what it has read, and what it
 -- would be to read on.
 use Rattle.std.specs.Prelude.{◌≡◌, List, ◌∷◌, ◌++◌, ℕ, ◌-◌, ◌≤◌, ◌<◌, length, take, drop}
-use Rattle.json.specs.Grammar.{Rule, byte, ◌then◌, ws}
-use Rattle.json.specs.Members.{Json, others, memberOf, value_of}
-use Rattle.json.specs.Skips.{Ends}
+use Rattle.json_text.specs.Grammar.{Rule, byte, ◌then◌, ws}
+use Rattle.json_text.specs.Members.{Json, others, memberOf, value_of}
+use Rattle.json_text.specs.Skips.{Ends}
 
 -- the item x stands at i and ends at e, and no other item ends where a value can end
 pub record ItemAt {A : Type 0} (item : A → Rule) (x : A) (s : List ℕ) (i e : ℕ) : Type 0 where

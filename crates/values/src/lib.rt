@@ -1,12 +1,14 @@
 // Values: JSON values, objects and arrays passed over, and the steps of a walk over the items of a list.
-// Text is read in place: every answer is a place in it. It uses the crate json, and rules in
+// Text is read in place: every answer is a place in it. It uses the crate json_text, and rules in
 // its theorems alone, and knows nothing of documents.
+#![tactic(auto)]
+
 ghost use Rattle.std.specs.Prelude.{◌≡◌, ◌<◌, ◌≤◌, length, get_or};
-ghost use Rattle.json.specs.Tight.{value, array, object, member};
-ghost use Rattle.json.specs.Skips.{Skips, Placed};
+ghost use Rattle.json_text.specs.Tight.{value, array, object, member};
+ghost use Rattle.json_text.specs.Skips.{Skips, Placed};
 ghost use Rattle.values.specs.Places.{Opens, Follows, Finds};
 
-use json::{Skip, can_end, peek, skip_scalar, skip_string, skip_ws};
+use json_text::{Skip, can_end, peek, skip_scalar, skip_string, skip_ws};
 
 // What stands behind an opening bracket: the first item, or the closing bracket and then a place.
 #[derive(Drop)]

@@ -2,6 +2,8 @@
 // A read-only pass over the path plans the write and decides every refusal; then it is applied, which
 // cannot fail. So a refused or unchanged write leaves every byte. It uses the crates rules, octets,
 // layout, tree, store and union.
+#![tactic(auto)]
+
 ghost use Rattle.store.specs.Storage.{IsStored};
 ghost use Rattle.writes.specs.Judge.{Wrote};
 ghost use Rattle.writes.specs.Path.{write_of};

@@ -2,7 +2,7 @@
 use borrow.Author.Rules.{rules}
 use mathlib.Core.Path.{refl}
 use native.Mathlib.Omega.{arith}
-use Rattle.json.proofs.WsLaws.{stands}
+use Rattle.json_text.proofs.WsLaws.{stands}
 use Rattle.takes.proofs.ReadLaws.{ends_yes, array_passed, array_skipped}
 use Rattle.takes.proofs.ids_array.Statement.{statement}
 use Rattle.takes.proofs.ids_array.Tie as tie

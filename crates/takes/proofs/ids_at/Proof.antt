@@ -4,7 +4,7 @@ use borrow.Author.Rules.{rules}
 use borrow.Author.Tests.{not-true, not-false}
 use lib.ListN.{length}
 use native.Mathlib.Omega.{arith}
-use Rattle.json.proofs.WsLaws.{stands}
+use Rattle.json_text.proofs.WsLaws.{stands}
 use Rattle.takes.proofs.IdsLaws.{ReadingIds, no_ids, ids_start, laid_here, id_wrong, ids_on, ids_last, ids_no_end, ids_within, ids_fall}
 use Rattle.takes.proofs.ids_at.Statement.{statement}
 use Rattle.takes.proofs.ids_at.Tie as tie

@@ -2,9 +2,9 @@
 use borrow.Author.Rules.{rules}
 use mathlib.Core.Path.{sym, ◌∙◌, refl}
 use native.Mathlib.Omega.{arith}
-use Rattle.json.proofs.CharLaws.{exact_to}
-use Rattle.json.proofs.WsLaws.{stands}
-use Rattle.json.specs.Grammar.{string}
+use Rattle.json_text.proofs.CharLaws.{exact_to}
+use Rattle.json_text.proofs.WsLaws.{stands}
+use Rattle.json_text.specs.Grammar.{string}
 use Rattle.takes.proofs.name_at.Statement.{statement}
 use Rattle.takes.proofs.name_at.Tie as tie
 use Rattle.takes.specs.Walk.{NoMember}

@@ -4,7 +4,7 @@ use borrow.Author.Rules.{rules}
 use lib.ListN.{length}
 use mathlib.Core.Path.{sym, ◌∙◌}
 use native.Mathlib.Omega.{arith}
-use Rattle.json.proofs.WsLaws.{stands}
+use Rattle.json_text.proofs.WsLaws.{stands}
 use Rattle.takes.proofs.ReadLaws.{OuterWalking}
 use Rattle.takes.proofs.ReadLaws.{outer_empty, outer_starts, outer_no_name, outer_no_value, outer_on, outer_last, outer_wrong, name_rises, member_falls, member_within}
 use Rattle.takes.proofs.WalkLaws.{name_found}

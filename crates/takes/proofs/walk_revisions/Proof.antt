@@ -4,7 +4,7 @@ use borrow.Author.Rules.{rules}
 use lib.ListN.{length}
 use mathlib.Core.Path.{sym, ◌∙◌}
 use native.Mathlib.Omega.{arith}
-use Rattle.json.proofs.WsLaws.{stands}
+use Rattle.json_text.proofs.WsLaws.{stands}
 use Rattle.takes.proofs.ReadLaws.{InnerWalking}
 use Rattle.takes.proofs.ReadLaws.{inner_empty, inner_starts, inner_no_name, inner_no_value, inner_on, inner_last, inner_wrong, name_rises, member_falls, member_within}
 use Rattle.takes.proofs.WalkLaws.{name_found}

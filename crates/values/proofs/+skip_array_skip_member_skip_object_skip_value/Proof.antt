@@ -1,7 +1,7 @@
 -- The functions that pass over values call each other: `skip_value`, `skip_array`, `skip_object` and `skip_member` meet
 -- their contracts. Depth and what is left of the text fall at every call. Assumes nothing.
-use Rattle.json.proofs.CharLaws.{exact_skips}
-use Rattle.json.proofs.PlaceLaws.{placed_skips}
+use Rattle.json_text.proofs.CharLaws.{exact_skips}
+use Rattle.json_text.proofs.PlaceLaws.{placed_skips}
 use Rattle.values.proofs.ValueLaws.{skips_to, skips_wrong}
 use mathlib.Core.Logic.{inl, inr}
 use mathlib.Core.Path.{refl, sym, ◌∙◌}
@@ -10,11 +10,11 @@ use borrow.Author.Rules.{rules}
 use Prim.Native.Nat.{ℕ, ◌+◌, ◌-◌, ◌<◌}
 use native.Mathlib.Omega.{arith}
 use lib.ListN.{length}
-use Rattle.json.specs.Grammar.{string, scalar}
-use Rattle.json.specs.Tight.{value, array, object, member, begin_array, end_array, begin_object, end_object}
-use Rattle.json.proofs.WsLaws.{stands}
-use Rattle.json.proofs.StepLaws.{Goes, skips_goes}
-use Rattle.json.proofs.ListLaws.{Items, Listed, closes_array, closes_object, list_none, list_first, list_no_item, list_last, list_wrong, list_more}
+use Rattle.json_text.specs.Grammar.{string, scalar}
+use Rattle.json_text.specs.Tight.{value, array, object, member, begin_array, end_array, begin_object, end_object}
+use Rattle.json_text.proofs.WsLaws.{stands}
+use Rattle.json_text.proofs.StepLaws.{Goes, skips_goes}
+use Rattle.json_text.proofs.ListLaws.{Items, Listed, closes_array, closes_object, list_none, list_first, list_no_item, list_last, list_wrong, list_more}
 use borrow.Fn.Kinds.{In}
 use borrow.Fn.PlainCycle.{Measures, is, falls, and}
 use Rattle.values.proofs.skip_array.Reads as skip-array
@@ -29,10 +29,10 @@ use Rattle.values.proofs.+skip_array_skip_member_skip_object_skip_value.Lts-skip
 use Rattle.values.proofs.skip_value.Reads as skip-value
 use Rattle.values.proofs.skip_value.Kinds as skip-value-kinds
 use Rattle.values.proofs.+skip_array_skip_member_skip_object_skip_value.Lts-skip_value as skip-value-lts
-use Rattle.json.proofs.peek.Reads as peek-reads
-use Rattle.json.proofs.skip_scalar.Reads as skip-scalar-reads
-use Rattle.json.proofs.skip_string.Reads as skip-string-reads
-use Rattle.json.proofs.skip_ws.Reads as skip-ws-reads
+use Rattle.json_text.proofs.peek.Reads as peek-reads
+use Rattle.json_text.proofs.skip_scalar.Reads as skip-scalar-reads
+use Rattle.json_text.proofs.skip_string.Reads as skip-string-reads
+use Rattle.json_text.proofs.skip_ws.Reads as skip-ws-reads
 use Rattle.values.proofs.+skip_array_skip_member_skip_object_skip_value.{statement}
 use Rattle.values.proofs.+skip_array_skip_member_skip_object_skip_value.Tie.{close}
 

@@ -1,7 +1,7 @@
 -- `values::after_item` meets its contract. Assumes nothing.
 use mathlib.Core.Path.{refl, sym, ◌∙◌}
 use native.Mathlib.Omega.{arith}
-use Rattle.json.proofs.WsLaws.{stands}
+use Rattle.json_text.proofs.WsLaws.{stands}
 use borrow.Author.Rules.{rules}
 use Rattle.values.proofs.after_item.Statement.{statement}
 use Rattle.values.proofs.after_item.Tie as tie

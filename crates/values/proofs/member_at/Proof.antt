@@ -1,9 +1,9 @@
 -- `values::member_at` meets its contract. Assumes nothing.
 use mathlib.Core.Path.{sym, ◌∙◌}
 use native.Mathlib.Omega.{arith}
-use Rattle.json.specs.Grammar.{string}
-use Rattle.json.proofs.WsLaws.{stands}
-use Rattle.json.proofs.CharLaws.{exact_to}
+use Rattle.json_text.specs.Grammar.{string}
+use Rattle.json_text.proofs.WsLaws.{stands}
+use Rattle.json_text.proofs.CharLaws.{exact_to}
 use Rattle.values.proofs.PlaceLaws.{no_name, no_colon, no_value, member_found}
 use borrow.Author.Rules.{rules}
 use Rattle.values.proofs.member_at.Statement.{statement}

@@ -1,6 +1,6 @@
 -- `values::value_at` meets its contract. Assumes nothing.
-use Rattle.json.specs.Tight.{value}
-use Rattle.json.proofs.PlaceLaws.{placed_yes, placed_no, placed_wrong}
+use Rattle.json_text.specs.Tight.{value}
+use Rattle.json_text.proofs.PlaceLaws.{placed_yes, placed_no, placed_wrong}
 use borrow.Author.Rules.{rules}
 use Rattle.values.proofs.value_at.Statement.{statement}
 use Rattle.values.proofs.value_at.Tie as tie

@@ -1,0 +1,18 @@
+-- `json::peek` meets its contract. Assumes nothing.
+use mathlib.Core.Path.{sym}
+use lib.ListN.{get_or-eq_default}
+use borrow.Author.Rules.{rules}
+use Rattle.json_text.proofs.peek.Statement.{statement}
+use Rattle.json_text.proofs.peek.Tie as tie
+
+shared-slice-read-result : tie.Need-shared-slice-read-result
+shared-slice-read-result c = search rules
+
+returns : tie.Need-returns
+returns c = search rules
+
+returns-2 : tie.Need-returns-2
+returns-2 c = sym (get_or-eq_default c.before.args.s.now 0 c.if1.false)
+
+pub peek_spec : {M : Type 1} → statement M
+peek_spec = tie.close (tie.spec shared-slice-read-result returns returns-2)

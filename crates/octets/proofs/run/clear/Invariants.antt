@@ -1,0 +1,12 @@
+-- `run::clear` meets its contract. Assumes nothing.
+use mathlib.Core.Path.{◌≡◌}
+use Prim.Native.Nat.{◌-◌, ◌≤◌}
+use lib.ListN.{length, replicate}
+use Rattle.octets.specs.Splice.{splice}
+use Rattle.octets.proofs.run.clear.Given as goal
+
+abbrev pub invariant-loop-i : goal.invariant-loop-i
+invariant-loop-i l = (l.i ≤ l.n) × (l.s ≡ splice l.initial.s l.at (replicate l.i 0)) × (length l.s ≡ length l.initial.s)
+
+abbrev pub decreases-loop-i : goal.decreases-loop-i
+decreases-loop-i l = l.n - l.i
