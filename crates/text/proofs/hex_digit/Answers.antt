@@ -1,0 +1,13 @@
+-- `text::hex_digit` meets its contract. Assumes nothing.
+use mathlib.Core.Path.{refl}
+use borrow.Author.Tests.{lt-ltb, le-ltb}
+use Rattle.rules.specs.Report.{hex_digit}
+use Rattle.text.proofs.hex_digit.Goals as goal
+
+pub returns-then-n-lt10 : goal.returns-then-n-lt10
+unfolding hex_digit
+returns-then-n-lt10 c = rw (lt-ltb _ _ c.if-n-lt10.true) refl
+
+pub returns : goal.returns
+unfolding hex_digit
+returns c = rw (le-ltb _ _ c.if-n-lt10.false) refl
