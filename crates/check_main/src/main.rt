@@ -17,7 +17,7 @@ const INPUT: usize = IMAGE_MOST + 1;
 const TRIES: usize = 1000;
 
 // What one read answered.
-#[derive(Drop)]
+#[derive(Clone, Copy)]
 enum Got {
     Bytes(usize),
     End,
@@ -26,7 +26,7 @@ enum Got {
 }
 
 // What all reads together answered.
-#[derive(Drop)]
+#[derive(Clone, Copy)]
 enum Input {
     Read(usize),
     Failed,

@@ -13,7 +13,7 @@ use tree::row::Kind;
 use tree::table::{Body, Found, find, kind_at};
 
 // A parent, if it is known. (A struct and not an enum, which can't hold a revision's array.)
-#[derive(Drop)]
+#[derive(Clone, Copy)]
 pub struct Parent {
     pub known: bool,
     pub rev: Revision,

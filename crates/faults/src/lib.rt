@@ -25,21 +25,21 @@ mod rows;
 mod sequence;
 
 // Where the first fault of a kind is.
-#[derive(Drop)]
+#[derive(Clone, Copy)]
 enum Place {
     Nowhere,
     At(usize),
 }
 
 // What is asked of a document's rows: 25, or 26 where 25 finds nothing.
-#[derive(Drop)]
+#[derive(Clone, Copy)]
 enum Rule {
     Rows,
     Links,
 }
 
 // What is wrong with an image, and where.
-#[derive(Drop)]
+#[derive(Clone, Copy)]
 pub enum Judged {
     Fine,
     Bad(Fault, usize),

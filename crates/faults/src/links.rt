@@ -16,14 +16,14 @@ use rules::{REVISIONS, RevNumber, Revision};
 use tree::table::{Body, Found, find};
 
 // Rows lo to hi, among which a parent is sought.
-#[derive(Drop)]
+#[derive(Clone, Copy)]
 struct Run {
     lo: usize,
     hi: usize,
 }
 
 // A row's parent: none is known, it isn't in the document, or it is a row there.
-#[derive(Drop)]
+#[derive(Clone, Copy)]
 enum Parent {
     Unknown,
     Missing,

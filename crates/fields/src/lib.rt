@@ -21,7 +21,7 @@ const ZERO: u8 = 48;
 const NINE: u8 = 57;
 
 // What a text says as a number.
-#[derive(Drop)]
+#[derive(Clone, Copy)]
 pub enum NumberSaid {
     Said(u64),
     Wrong,
@@ -90,7 +90,7 @@ const LETTERS: u8 = 87;
 const HASH_DIGITS: usize = HASH + HASH;
 
 // What a text says as a hash. (A struct and not an enum, which can't hold an array.)
-#[derive(Drop)]
+#[derive(Clone, Copy)]
 pub struct HashSaid {
     pub said: bool,
     pub hash: [u8; 16],
@@ -202,7 +202,7 @@ pub fn read_hash(t: &[u8]) -> HashSaid
 const DASH: u8 = 45;
 
 // What a text says as a revision. (A struct and not an enum, which can't hold a revision's array.)
-#[derive(Drop)]
+#[derive(Clone, Copy)]
 pub struct RevSaid {
     pub said: bool,
     pub rev: Revision,

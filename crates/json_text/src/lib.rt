@@ -11,7 +11,7 @@ ghost use Rattle.json_text.specs.Skips.{WsTo, Ends, Skips, Placed, Here, RunTo, 
 const BLOCK: usize = 16;
 
 // The place after what was passed over, or that it does not stand there.
-#[derive(Drop)]
+#[derive(Clone, Copy)]
 pub enum Skip {
     To(usize),
     Wrong,

@@ -27,7 +27,7 @@ use tree::table::{Body, Found, kind_at, rev_at};
 const PATH: usize = PATH_HASHES * HASH;
 
 // The rows of a document that can be put out, or why it can't be.
-#[derive(Drop)]
+#[derive(Clone, Copy)]
 enum Opened {
     At(Body),
     Refused(Refusal),

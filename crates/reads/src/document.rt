@@ -21,7 +21,7 @@ const ASKED_HASH_IN: usize = 4;
 const ASKED: usize = ASKED_HASH_IN + HASH;
 
 // The rows of a document, or why there are none to read.
-#[derive(Drop)]
+#[derive(Clone, Copy)]
 enum Opened {
     At(Body),
     Refused(Refusal),

@@ -3,7 +3,6 @@
 // what they mean: the definitions that every promise cites. It uses no other crate.
 #![tactic(auto)]
 
-
 // The room: what a replica holds at most, and what one path holds at most. All other sizes follow.
 pub const DOCUMENTS: usize = 32;
 
@@ -17,11 +16,11 @@ pub const HASH: usize = 16;
 pub const ID_MOST: usize = 32;
 
 // A revision's number, from 1 on. It never serves as a sequence.
-#[derive(Drop)]
+#[derive(Clone, Copy)]
 pub struct RevNumber(pub u32);
 
 // An update sequence, 0 when fresh. It never serves as a revision's number.
-#[derive(Drop)]
+#[derive(Clone, Copy)]
 pub struct Seq(pub u32);
 
 // The largest revision number.
@@ -30,20 +29,20 @@ pub const NUMBER_MOST: u32 = 4294967295;
 // The largest update sequence.
 pub const SEQ_MOST: u32 = 4294967295;
 
-#[derive(Drop)]
+#[derive(Clone, Copy)]
 pub struct Revision {
     pub number: RevNumber,
     pub hash: [u8; 16],
 }
 
 // A live body with its label, or a deletion, which has none.
-#[derive(Drop)]
+#[derive(Clone, Copy)]
 pub enum Content {
     Live(u64),
     Deleted,
 }
 
-#[derive(Drop)]
+#[derive(Clone, Copy)]
 pub enum Order {
     Less,
     Equal,
@@ -51,7 +50,7 @@ pub enum Order {
 }
 
 // Why a call was refused. `refusal_number` in specs/Refusal.antt gives each its number.
-#[derive(Drop)]
+#[derive(Clone, Copy)]
 pub enum Refusal {
     BadId,
     BadPath,
@@ -75,7 +74,7 @@ pub enum Refusal {
 }
 
 // What is wrong with an image. `fault_number` in specs/Refusal.antt gives each its number.
-#[derive(Drop)]
+#[derive(Clone, Copy)]
 pub enum Fault {
     TooShort,
     BadEdition,
@@ -87,28 +86,28 @@ pub enum Fault {
 }
 
 // What an accepted write did.
-#[derive(Drop)]
+#[derive(Clone, Copy)]
 pub enum Outcome {
     Changed,
     Unchanged,
 }
 
 // The answer of a path write: accepted with what happened, or refused.
-#[derive(Drop)]
+#[derive(Clone, Copy)]
 pub enum Written {
     Accepted(Outcome),
     Refused(Refusal),
 }
 
 // The answer of an edit: the new revision's number, or refused.
-#[derive(Drop)]
+#[derive(Clone, Copy)]
 pub enum Edited {
     Accepted(RevNumber),
     Refused(Refusal),
 }
 
 // The answer of a read: a count, or refused.
-#[derive(Drop)]
+#[derive(Clone, Copy)]
 pub enum Answered {
     Count(usize),
     Refused(Refusal),
@@ -116,7 +115,7 @@ pub enum Answered {
 
 // A document that changed: its id's length, its own sequence, its leaves, and whether its winner is
 // a deletion.
-#[derive(Drop)]
+#[derive(Clone, Copy)]
 pub struct Change {
     pub id_len: usize,
     pub seq: Seq,
@@ -125,7 +124,7 @@ pub struct Change {
 }
 
 // The answer to changes after a sequence.
-#[derive(Drop)]
+#[derive(Clone, Copy)]
 pub enum Changes {
     Next(Change),
     NoMore,
@@ -133,21 +132,21 @@ pub enum Changes {
 }
 
 // Which document changes comes to next: its place among the documents and its own sequence, or none.
-#[derive(Drop)]
+#[derive(Clone, Copy)]
 pub enum Next {
     Nobody,
     At(usize, Seq),
 }
 
 // The answer of a load: refused with the fault and its place.
-#[derive(Drop)]
+#[derive(Clone, Copy)]
 pub enum Loaded {
     Accepted,
     Refused(Fault, usize),
 }
 
 // The offers of a pull by what became of them.
-#[derive(Drop)]
+#[derive(Clone, Copy)]
 pub struct Counts {
     pub changed: usize,
     pub unchanged: usize,
@@ -155,7 +154,7 @@ pub struct Counts {
 }
 
 // How many documents and revisions a replica holds.
-#[derive(Drop)]
+#[derive(Clone, Copy)]
 pub struct Held {
     pub documents: usize,
     pub revisions: usize,

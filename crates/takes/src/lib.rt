@@ -63,7 +63,7 @@ const LAID: usize = (PATH_HASHES + 1) * HASH;
 // ---- where the values of our members stand
 
 // Of one name: nowhere, from a place to another, or in more than one place.
-#[derive(Drop)]
+#[derive(Clone, Copy)]
 enum Spot {
     Absent,
     Once(usize, usize),
@@ -71,7 +71,7 @@ enum Spot {
 }
 
 // Of each of our names, in the order in which `which_name` counts them.
-#[derive(Drop)]
+#[derive(Clone, Copy)]
 struct Spots {
     id: Spot,
     rev: Spot,
@@ -133,7 +133,7 @@ fn see(p: Spots, k: usize, v: usize, e: usize) -> Spots
 }
 
 // A member's name ends at the first place, and its value stands at the second.
-#[derive(Drop)]
+#[derive(Clone, Copy)]
 enum Name {
     At(usize, usize),
     Wrong,
@@ -157,7 +157,7 @@ fn name_at(s: &[u8], at: usize) -> Name
 // ---- what stands in a spot
 
 // A part of the line, or none of the wanted form.
-#[derive(Drop)]
+#[derive(Clone, Copy)]
 enum Part {
     In(usize, usize),
     Wrong,
@@ -188,7 +188,7 @@ fn number_in(s: &[u8], p: Spot, most: u64) -> NumberSaid
 }
 
 // What `_deleted` and `label` say.
-#[derive(Drop)]
+#[derive(Clone, Copy)]
 enum ContentSaid {
     Said(Content),
     Wrong,
@@ -246,7 +246,7 @@ fn hash_in(s: &[u8], i: usize, path: &mut [u8], at: usize) -> bool
 }
 
 // How many hashes were laid down, of ids that all are hashes, and where their array ends.
-#[derive(Drop)]
+#[derive(Clone, Copy)]
 enum Ids {
     Are(usize, usize),
     Wrong,
@@ -291,7 +291,7 @@ fn ids_at(s: &[u8], at: usize, path: &mut [u8]) -> Ids
 // ---- `_revisions`, passed over and read at once
 
 // Where a value ends, and what was read of the ids.
-#[derive(Drop)]
+#[derive(Clone, Copy)]
 struct IdsValue {
     end: Skip,
     got: Ids,
@@ -342,20 +342,20 @@ fn ids_value(s: &[u8], k: usize, v: usize, path: &mut [u8], got: Ids) -> IdsValu
 }
 
 // An object's end, and the spots of its members.
-#[derive(Drop)]
+#[derive(Clone, Copy)]
 struct Walked {
     end: usize,
     spots: Spots,
 }
 
 // The same of `_revisions`, with what was read of the ids.
-#[derive(Drop)]
+#[derive(Clone, Copy)]
 struct Inner {
     walked: Walked,
     got: Ids,
 }
 
-#[derive(Drop)]
+#[derive(Clone, Copy)]
 enum InnerWalk {
     Passed(Inner),
     Wrong,
@@ -402,7 +402,7 @@ fn walk_revisions(s: &[u8], at: usize, path: &mut [u8]) -> InnerWalk
 }
 
 // What `_revisions` says: its start, and how many hashes were laid down.
-#[derive(Drop)]
+#[derive(Clone, Copy)]
 enum Revs {
     Said(u64, usize),
     Wrong,
@@ -428,7 +428,7 @@ fn revs_in(s: &[u8], start: Spot, ids: Spot, got: Ids) -> Revs
 }
 
 // Where a value ends, and what was read of `_revisions`.
-#[derive(Drop)]
+#[derive(Clone, Copy)]
 struct RevsValue {
     end: Skip,
     got: Revs,
@@ -487,13 +487,13 @@ fn revs_value(s: &[u8], k: usize, v: usize, path: &mut [u8], got: Revs) -> RevsV
 // ---- the walk over a line
 
 // A line's end and spots, with what was read of `_revisions`.
-#[derive(Drop)]
+#[derive(Clone, Copy)]
 struct Outer {
     walked: Walked,
     got: Revs,
 }
 
-#[derive(Drop)]
+#[derive(Clone, Copy)]
 enum OuterWalk {
     Passed(Outer),
     Wrong,
@@ -562,7 +562,7 @@ fn walk_line(s: &[u8], path: &mut [u8]) -> OuterWalk
 
 // How many hashes were laid down; or `_rev` and `_revisions` differ, or there are none; or a member is
 // of the wrong form.
-#[derive(Drop)]
+#[derive(Clone, Copy)]
 enum PathSaid {
     Hashes(usize),
     Other,

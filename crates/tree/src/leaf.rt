@@ -17,7 +17,7 @@ const LEAF_LABEL_IN: usize = KIND_IN + 1;
 pub const LEAF: usize = LEAF_LABEL_IN + 8;
 
 // The leaf that wins, if there is one. (A struct and not an enum, which can't hold a revision's array.)
-#[derive(Drop)]
+#[derive(Clone, Copy)]
 pub struct Winner {
     pub known: bool,
     pub rev: Revision,
@@ -25,7 +25,7 @@ pub struct Winner {
 }
 
 // A leaf's row, or nobody.
-#[derive(Drop)]
+#[derive(Clone, Copy)]
 enum Last {
     Nobody,
     At(usize),

@@ -9,7 +9,7 @@ use octets::run::put_hash;
 use rules::{HASH, RevNumber, Revision};
 
 // A row's parent, if one is known whose path is not empty.
-#[derive(Drop)]
+#[derive(Clone, Copy)]
 struct Parent {
     known: bool,
     rev: Revision,

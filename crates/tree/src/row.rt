@@ -15,14 +15,14 @@ use octets::run::put_hash;
 use rules::{Content, HASH, Order, RevNumber, Revision};
 
 // What a revision is: one with a child, or a leaf with its content.
-#[derive(Drop)]
+#[derive(Clone, Copy)]
 pub enum Kind {
     Inner,
     Leaf(Content),
 }
 
 // A revision with what is known of it. Where the parent isn't known its hash says nothing.
-#[derive(Drop)]
+#[derive(Clone, Copy)]
 pub struct Row {
     pub rev: Revision,
     pub known: bool,

@@ -14,14 +14,14 @@ use octets::run::move_up;
 use rules::{HASH, Order, RevNumber, Revision};
 
 // A tree's rows: where the first begins, and how many follow each other.
-#[derive(Drop)]
+#[derive(Clone, Copy)]
 pub struct Body {
     pub base: usize,
     pub rows: usize,
 }
 
 // Where a revision is, or the gap where it would go.
-#[derive(Drop)]
+#[derive(Clone, Copy)]
 pub enum Found {
     At(usize),
     Gap(usize),

@@ -11,7 +11,7 @@ ghost use Rattle.values.specs.Places.{Opens, Follows, Finds};
 use json_text::{Skip, can_end, peek, skip_scalar, skip_string, skip_ws};
 
 // What stands behind an opening bracket: the first item, or the closing bracket and then a place.
-#[derive(Drop)]
+#[derive(Clone, Copy)]
 pub enum Opened {
     First(usize),
     Empty(usize),
@@ -19,7 +19,7 @@ pub enum Opened {
 
 // What stands behind an item: a comma and then another item, the closing bracket and then a place, or
 // neither.
-#[derive(Drop)]
+#[derive(Clone, Copy)]
 pub enum After {
     More(usize),
     Last(usize),
@@ -27,7 +27,7 @@ pub enum After {
 }
 
 // The places of a member: its name with the quotation marks, and its value.
-#[derive(Drop)]
+#[derive(Clone, Copy)]
 pub struct Member {
     pub name: usize,
     pub name_end: usize,
@@ -36,7 +36,7 @@ pub struct Member {
 }
 
 // A member, or that none stands there.
-#[derive(Drop)]
+#[derive(Clone, Copy)]
 pub enum Found {
     At(Member),
     Wrong,

@@ -20,7 +20,7 @@ pub(crate) fn in_range(content: Content) -> Content
 }
 
 // A refusal, or none.
-#[derive(Drop)]
+#[derive(Clone, Copy)]
 pub enum Verdict {
     Clear,
     Refused(Refusal),

@@ -23,7 +23,7 @@ use tree::table::{Body, Found, find, row_at};
 
 // What a path would do to a document: whether a revision of it has another parent (4) or another
 // content (5), how many revisions and parents it would add, and how many of the newest it can alter.
-#[derive(Drop)]
+#[derive(Clone, Copy)]
 pub struct Plan {
     pub crossed: bool,
     pub other: bool,
@@ -33,7 +33,7 @@ pub struct Plan {
 }
 
 // A plan, and how many rows can still hold what is left of the path.
-#[derive(Drop)]
+#[derive(Clone, Copy)]
 struct Pass {
     plan: Plan,
     top: usize,

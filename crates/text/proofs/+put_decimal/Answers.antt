@@ -13,12 +13,12 @@ pub put_decimal-next-requires : goal.put_decimal-next-requires
 put_decimal-next-requires t c = let l = length_more c.args.v (omega arith) (omega arith) in omega arith
 
 pub bounds-s-next : goal.bounds-s-next
-bounds-s-next t c = in_last {v = c.args.v} (omega arith) (omega arith) c.requires.1 c.put_decimal-next.ensures
+bounds-s-next t c = in_last {v = c.args.v} (omega arith) (omega arith) c.requires c.put_decimal-next.ensures
 
 pub overflow_add-result-2 : goal.overflow_add-result-2
 overflow_add-result-2 t c =
-    let h = in_last {v = c.args.v} (omega arith) (omega arith) c.requires.1 c.put_decimal-next.ensures in
+    let h = in_last {v = c.args.v} (omega arith) (omega arith) c.requires c.put_decimal-next.ensures in
     omega arith
 
 pub returns : goal.returns
-returns t c = put_last {v = c.args.v} (omega arith) (omega arith) c.requires.1 c.put_decimal-next.ensures
+returns t c = put_last {v = c.args.v} (omega arith) (omega arith) c.requires c.put_decimal-next.ensures

@@ -1,0 +1,8 @@
+-- `path::count_above` meets its contract. Assumes nothing.
+use Prim.Native.Nat.{◌+◌, ◌*◌}
+use Rattle.rules.specs.Layout.{row_size}
+use Rattle.tree.specs.Rows.{rev_at}
+use Rattle.tree.proofs.path.+count_above.Given as goal
+
+abbrev pub decreases-count_above : goal.decreases-count_above
+decreases-count_above l = (rev_at (l.base + l.i * row_size) l.s.now).number.0
