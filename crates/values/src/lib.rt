@@ -45,7 +45,7 @@ pub enum Found {
 // ---- Passing over
 
 // Passes over a value in which objects and arrays go at most `depth` deep.
-#[cycle(skip_array_skip_member_skip_object_skip_value)]
+#[cycle(skips)]
 fn skip_value(s: &[u8], at: usize, depth: usize) -> Skip
     requires { at ≤ length s.now }
     ensures { Skips (value depth) s.now at result }
@@ -67,7 +67,7 @@ fn skip_value(s: &[u8], at: usize, depth: usize) -> Skip
 }
 
 // Passes over an array whose values go at most `depth` deep.
-#[cycle(skip_array_skip_member_skip_object_skip_value)]
+#[cycle(skips)]
 fn skip_array(s: &[u8], at: usize, depth: usize) -> Skip
     requires { get_or s.now at 0 ≡ 91 }
     ensures { Skips (array (value depth)) s.now at result }
@@ -93,7 +93,7 @@ fn skip_array(s: &[u8], at: usize, depth: usize) -> Skip
 }
 
 // Passes over an object whose values go at most `depth` deep.
-#[cycle(skip_array_skip_member_skip_object_skip_value)]
+#[cycle(skips)]
 fn skip_object(s: &[u8], at: usize, depth: usize) -> Skip
     requires { get_or s.now at 0 ≡ 123 }
     ensures { Skips (object (value depth)) s.now at result }
@@ -119,7 +119,7 @@ fn skip_object(s: &[u8], at: usize, depth: usize) -> Skip
 }
 
 // Passes over a member whose value goes at most `depth` deep.
-#[cycle(skip_array_skip_member_skip_object_skip_value)]
+#[cycle(skips)]
 fn skip_member(s: &[u8], at: usize, depth: usize) -> Skip
     requires { at ≤ length s.now }
     ensures { Skips (member (value depth)) s.now at result }
