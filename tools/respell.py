@@ -18,7 +18,7 @@ ROOT = ROOTS[0] if ROOTS else os.path.join(os.path.dirname(os.path.abspath(__fil
 CRATES = [l.split(":")[0].split()[0] for l in open(os.path.join(ROOT, "crates.txt")) if l.strip() and not l.startswith("#")]
 TOKEN = re.compile(r"[^\s(){}.,;\[\]\"«»`⟨⟩|]+")
 # names that would fall together in the table, but stand in no scope together
-APART = {"bothWays": "both_ways", "takeIn": "take_in"}
+APART = {"bothWays": "both_ways", "takeIn": "take_in", "joinedWith": "JoinedWith"}
 JOINED = {"length", "drop", "take", "map", "sum", "reverse", "replicate", "append", "get_or", "splice", "part", "min", "max"}
 
 
@@ -50,7 +50,7 @@ def declared():
                 if name not in ("where", ":", "="):
                     own[name] = own.get(name, False) or spec
                 continue
-            m = re.match(r"\s+(?:constructor\s+)?(?:pub\s+)?([^\s(){}:]+)\s+:(\s|$)", line)
+            m = re.match(r"\s+(?:constructor\s+)?(?:(?:abbrev|unfoldable|pub)\s+)*([^\s(){}:]+)\s+:(\s|$)", line)
             if m:
                 own[m.group(1)] = own.get(m.group(1), False) or (spec and block is not None)
     return own

@@ -111,17 +111,17 @@ refused_value x n d = ap (λ (m : Numbered). m.value) d
 
 module _ (r : Replica) (k : IsReplica r) (out : List ℕ) (room : revisions_most * leaf_size ≤ length out) where
   -- what a read of "lot" answers, of the document as it is held
-  abbrev lotRead : Option Document → ℕ → List ℕ → Answered × List ℕ
-  lotRead o n bytes =
+  abbrev lot_read : Option Document → ℕ → List ℕ → Answered × List ℕ
+  lot_read o n bytes =
       lend answered.Refused out (answered.Count n) bytes (first_that ((bad_id lot, BadId) ∷ (is_none o, NoDocument) ∷ short_buffer bytes out ∷ []))
 
   -- absent, 12
-  lot_absent : (n : ℕ) (bytes : List ℕ) → lotRead none n bytes ≡ (answered.Refused NoDocument, out)
+  lot_absent : (n : ℕ) (bytes : List ℕ) → lot_read none n bytes ≡ (answered.Refused NoDocument, out)
   unfolding first_that bad_id
   lot_absent n bytes = refl
 
   -- held, and with room for it, the answer
-  lot_held : (d : Document) (n : ℕ) (bytes : List ℕ) → length bytes ≤ length out → lotRead (some d) n bytes ≡ (answered.Count n, front bytes out)
+  lot_held : (d : Document) (n : ℕ) (bytes : List ℕ) → length bytes ≤ length out → lot_read (some d) n bytes ≡ (answered.Count n, front bytes out)
   unfolding first_that bad_id short_buffer
   lot_held d n bytes h = rw (le-ltb (length out) (length bytes) h)
 
@@ -134,7 +134,7 @@ module _ (r : Replica) (k : IsReplica r) (out : List ℕ) (room : revisions_most
   leaves_read x left = go (document_of r lot) refl
     where
       said : Option Document → Answered × List ℕ
-      said o = lotRead o (length (leaves (tree_in o))) (join (map leaf_bytes (leaves (tree_in o))))
+      said o = lot_read o (length (leaves (tree_in o))) (join (map leaf_bytes (leaves (tree_in o))))
 
       go : (o : Option Document) → document_of r lot ≡ o → decode x ≡ answered_number (said o).0 → left ≡ (said o).1 → pairs_in (value_in x) left ≡ shorts (leaves (tree_in o))
       go none e d l =
@@ -153,7 +153,7 @@ module _ (r : Replica) (k : IsReplica r) (out : List ℕ) (room : revisions_most
       bytes o = maybe [] leaf_bytes (winner (tree_in o))
 
       said : Option Document → Answered × List ℕ
-      said o = lotRead o (length (bytes o)) (bytes o)
+      said o = lot_read o (length (bytes o)) (bytes o)
 
       short_one : (t : Document) → IsTree t.tree → (w : Option LeafOf) → winner t.tree ≡ w → length (maybe [] leaf_bytes w) ≤ length out
       short_one t h none q = omega arith

@@ -57,57 +57,57 @@ entries_none i d s h = items_none entry_of entry_size (entry_place i) (d - i) s 
 
 module _ (s : List ℕ) (d r : ℕ) where
   -- what is still to be found from entry i on, where `rows` rows are before it
-  unfoldable pub contentsFrom : ℕ → ℕ → Option ℕ
-  contentsFrom i rows =
+  unfoldable pub contents_from : ℕ → ℕ → Option ℕ
+  contents_from i rows =
       or_else (first_true i (bad_entries (row_place d rows) (id_before i s) (entries_from i d s)))
       (pick (eqb (rows + sum_rows (entries_from i d s)) r) none (some d))
 
-  pub contents_bad : (i rows : ℕ) → i < d → bad_entry (row_place d rows) (id_before i s) (entry_at i s) ≡ true → contentsFrom i rows ≡ some i
-  unfolding contentsFrom first_true bad_entries
+  pub contents_bad : (i rows : ℕ) → i < d → bad_entry (row_place d rows) (id_before i s) (entry_at i s) ≡ true → contents_from i rows ≡ some i
+  unfolding contents_from first_true bad_entries
   contents_bad i rows h e = rw (entries_next i d s h, e)
 
   pub contents_next : (i rows : ℕ) → i < d → bad_entry (row_place d rows) (id_before i s) (entry_at i s) ≡ false
-      → contentsFrom i rows ≡ contentsFrom (i + 1) (rows + (entry_at i s).rows)
-  unfolding contentsFrom first_true bad_entries sum_rows
+      → contents_from i rows ≡ contents_from (i + 1) (rows + (entry_at i s).rows)
+  unfolding contents_from first_true bad_entries sum_rows
   contents_next i rows h e =
       let k : row_place d rows + row_size * (entry_at i s).rows ≡ row_place d (rows + (entry_at i s).rows) = omega arith in
       rw (entries_next i d s h, e, k, add-one i, sym (add_assoc rows (entry_at i s).rows (sum_rows (entries_from (suc i) d s))))
 
-  pub contents_end : (i rows : ℕ) → d ≤ i → contentsFrom i rows ≡ pick (eqb rows r) none (some d)
-  unfolding contentsFrom first_true bad_entries sum_rows
+  pub contents_end : (i rows : ℕ) → d ≤ i → contents_from i rows ≡ pick (eqb rows r) none (some d)
+  unfolding contents_from first_true bad_entries sum_rows
   contents_end i rows h = rw (entries_none i d s h, add-zero rows)
 
-pub contents_all : (s : List ℕ) → bad_contents s ≡ contentsFrom s (head_of s).documents (head_of s).revisions 0 0
-unfolding bad_contents contentsFrom
+pub contents_all : (s : List ℕ) → bad_contents s ≡ contents_from s (head_of s).documents (head_of s).revisions 0 0
+unfolding bad_contents contents_from
 contents_all s = rw (entries_all s, add-zero (entry_place (head_of s).documents), zero-add (sum_rows (entries_from 0 (head_of s).documents s)))
 
 -- ---- 24
 
 module _ (s : List ℕ) (d q : ℕ) where
   -- what is still to be found from entry i on, where `most` is the largest sequence before it
-  unfoldable pub sequenceFrom : ℕ → ℕ → Option ℕ
-  sequenceFrom i most =
+  unfoldable pub sequence_from : ℕ → ℕ → Option ℕ
+  sequence_from i most =
       or_else (first_true i (bad_seqs (seqs_before i s) (entries_from i d s)))
       (pick (eqb q (max most (largest (entries_from i d s)))) none (some d))
 
-  pub sequence_bad : (i most : ℕ) → i < d → (eqb (seq_at i s) 0 || any (eqb (seq_at i s)) (seqs_before i s)) ≡ true → sequenceFrom i most ≡ some i
-  unfolding sequenceFrom first_true bad_seqs
+  pub sequence_bad : (i most : ℕ) → i < d → (eqb (seq_at i s) 0 || any (eqb (seq_at i s)) (seqs_before i s)) ≡ true → sequence_from i most ≡ some i
+  unfolding sequence_from first_true bad_seqs
   sequence_bad i most h e = rw (entries_next i d s h, e)
 
   pub sequence_next : (i most : ℕ) → i < d → (eqb (seq_at i s) 0 || any (eqb (seq_at i s)) (seqs_before i s)) ≡ false
-      → sequenceFrom i most ≡ sequenceFrom (i + 1) (max most (seq_at i s))
-  unfolding sequenceFrom first_true bad_seqs largest seqs_before
+      → sequence_from i most ≡ sequence_from (i + 1) (max most (seq_at i s))
+  unfolding sequence_from first_true bad_seqs largest seqs_before
   sequence_next i most h e =
       let rest : ℕ = largest (entries_from (i + 1) d s) in
       let k : max most (max (seq_at i s) rest) ≡ max (max most (seq_at i s)) rest = omega arith in
       rw (entries_next i d s h, e, k, add-one i)
 
-  pub sequence_end : (i most : ℕ) → d ≤ i → sequenceFrom i most ≡ pick (eqb q most) none (some d)
-  unfolding sequenceFrom first_true bad_seqs largest
+  pub sequence_end : (i most : ℕ) → d ≤ i → sequence_from i most ≡ pick (eqb q most) none (some d)
+  unfolding sequence_from first_true bad_seqs largest
   sequence_end i most h = let k : max most 0 ≡ most = omega arith in rw (entries_none i d s h, k)
 
-pub sequence_all : (s : List ℕ) → bad_sequence s ≡ sequenceFrom s (head_of s).documents (head_of s).seq 0 0
-unfolding bad_sequence sequenceFrom seqs_before
+pub sequence_all : (s : List ℕ) → bad_sequence s ≡ sequence_from s (head_of s).documents (head_of s).seq 0 0
+unfolding bad_sequence sequence_from seqs_before
 sequence_all s =
     let k : max 0 (largest (entries_from 0 (head_of s).documents s)) ≡ largest (entries_from 0 (head_of s).documents s) = omega arith in
     rw (entries_all s, k)

@@ -234,19 +234,19 @@ module _ (base n : ℕ) (s : List ℕ) (o : Ordered base n s) where
     run_within : run.hi ≤ n
     run_within = let w = v.within in omega arith
 
-    abbrev run-tree : Tree
-    run-tree = tree_at (base + run.lo * row_size) (run.hi - run.lo) s
+    abbrev run_tree : Tree
+    run_tree = tree_at (base + run.lo * row_size) (run.hi - run.lo) s
 
-    in_run : (i : ℕ) → i < run.hi - run.lo → rev_in run-tree i ≡ (row_on base (run.lo + i) s).rev
+    in_run : (i : ℕ) → i < run.hi - run.lo → rev_in run_tree i ≡ (row_on base (run.lo + i) s).rev
     unfolding rev_at node_at node_held meaning row_from
     in_run i h =
         let e : base + run.lo * row_size + i * row_size ≡ base + (run.lo + i) * row_size = omega arith in
         rev_in_lem (base + run.lo * row_size) (run.hi - run.lo) i s h ∙ ap (λ (k : ℕ). (row_at k s).rev) e
 
     -- found there
-    pub run_found : (p : Revision) (i : ℕ) → place_of 0 p run-tree ≡ At i → (run.lo + i < n) × ((row_on base (run.lo + i) s).rev ≡ p)
+    pub run_found : (p : Revision) (i : ℕ) → place_of 0 p run_tree ≡ At i → (run.lo + i < n) × ((row_on base (run.lo + i) s).rev ≡ p)
     run_found p i e =
-        let q = place_at i p run-tree e in
+        let q = place_at i p run_tree e in
         let l = q.within in
         let k = length-tree (base + run.lo * row_size) (run.hi - run.lo) s in
         let h : i < run.hi - run.lo = omega arith in
@@ -254,7 +254,7 @@ module _ (base n : ℕ) (s : List ℕ) (o : Ordered base n s) where
         (omega arith, sym (in_run i h) ∙ q.is)
 
     -- not found there, so nowhere among the rows
-    run_missing : (p : Revision) (i : ℕ) → suc p.number.0 ≡ number_on base j s → place_of 0 p run-tree ≡ Gap i
+    run_missing : (p : Revision) (i : ℕ) → suc p.number.0 ≡ number_on base j s → place_of 0 p run_tree ≡ Gap i
         → (m : ℕ) → m < n → same_rev p (row_on base m s).rev ≡ false
     unfolding same_rev
     run_missing p i below e m h = same_not (order_rev p (row_on base m s).rev) (λ q. not_here q (ltb m run.lo) refl (ltb m run.hi) refl)
@@ -270,7 +270,7 @@ module _ (base n : ℕ) (s : List ℕ) (o : Ordered base n s) where
             let k = length-tree (base + run.lo * row_size) (run.hi - run.lo) s in
             let r : run.lo + (m - run.lo) ≡ m = omega arith in
             let t = in_run (m - run.lo) (omega arith) ∙ ap (λ (z : ℕ). (row_on base z s).rev) r in
-            let g = found_here run-tree p (m - run.lo) (run_searchable run.lo run.hi v.ordered run_within).ascending (omega arith) (rw t q) in
+            let g = found_here run_tree p (m - run.lo) (run_searchable run.lo run.hi v.ordered run_within).ascending (omega arith) (rw t q) in
             let z : ◌≡◌ {A = ℕ} 0 1 = cc in
             omega arith
         not_here q false x false y =
@@ -298,7 +298,7 @@ module _ (base n : ℕ) (s : List ℕ) (o : Ordered base n s) where
         same_not (order_rev b a) (λ q. true≢false (sym (ap is_equal (rev_order.self a)) ∙ (ap (λ (x : Revision). is_equal (order_rev a x)) (sym (rev_order.same b a q)) ∙ e)))
 
     linked_some : (p : Revision) → parent_of_row (row_on base j s) ≡ some p → suc p.number.0 ≡ number_on base j s
-        → (f : Found) → place_of 0 p run-tree ≡ f → Linked (among run.lo f)
+        → (f : Found) → place_of 0 p run_tree ≡ f → Linked (among run.lo f)
     unfolding missing is_parent_of
     linked_some p e below (Gap i) q =
         let none_is = run_missing p i below q in (
@@ -319,10 +319,10 @@ module _ (base n : ℕ) (s : List ℕ) (o : Ordered base n s) where
         go m h l is false t =
             ap (same_rev (row_on base m s).rev) (sym is) ∙ rows_differ m (run.lo + i) h l (eqb-false m (run.lo + i) t)
 
-    linked_as : (r : Option Revision) → parent_of_row (row_on base j s) ≡ r → Linked (parent_among run.lo run-tree r)
+    linked_as : (r : Option Revision) → parent_of_row (row_on base j s) ≡ r → Linked (parent_among run.lo run_tree r)
     unfolding missing is_parent_of
     linked_as none e = (rw e refl, λ m h. rw e refl)
-    linked_as (some p) e = linked_some p e (parent_below (row_on base j s) p (row_good j here).number e) (place_of 0 p run-tree) refl
+    linked_as (some p) e = linked_some p e (parent_below (row_on base j s) p (row_good j here).number e) (place_of 0 p run_tree) refl
 
     linked : (r : Parent) → parent_on base run j s ≡ r → Linked r
     unfolding parent_on
@@ -368,23 +368,23 @@ or_false true b e = refl
 or_false false b e = e
 
 module _ (base n j : ℕ) (s ms : List ℕ) where
-  abbrev is-parent : ℕ → Row → Bool
-  is-parent m = is_parent_of (row_on base m s).rev
+  abbrev is_parent : ℕ → Row → Bool
+  is_parent m = is_parent_of (row_on base m s).rev
 
   -- row j is no child of row m, or it is one
-  same_any : (m : ℕ) → is-parent m (row_on base j s) ≡ false → any (is-parent m) (rows_at base j s) ≡ any (is-parent m) (rows_at base (j + 1) s)
-  same_any m e = sym (any_next base s (is-parent m) j ∙ or_false (any (is-parent m) (rows_at base j s)) (is-parent m (row_on base j s)) e)
+  same_any : (m : ℕ) → is_parent m (row_on base j s) ≡ false → any (is_parent m) (rows_at base j s) ≡ any (is_parent m) (rows_at base (j + 1) s)
+  same_any m e = sym (any_next base s (is_parent m) j ∙ or_false (any (is_parent m) (rows_at base j s)) (is_parent m (row_on base j s)) e)
 
-  true_any : (m : ℕ) → is-parent m (row_on base j s) ≡ true → true ≡ any (is-parent m) (rows_at base (j + 1) s)
-  true_any m e = sym (any_next base s (is-parent m) j ∙ or-true (any (is-parent m) (rows_at base j s)) (is-parent m (row_on base j s)) e)
+  true_any : (m : ℕ) → is_parent m (row_on base j s) ≡ true → true ≡ any (is_parent m) (rows_at base (j + 1) s)
+  true_any m e = sym (any_next base s (is_parent m) j ∙ or-true (any (is_parent m) (rows_at base j s)) (is_parent m (row_on base j s)) e)
 
-  marks_same : Marks base n j s ms → ((m : ℕ) → m < n → is-parent m (row_on base j s) ≡ false) → Marks base n (j + 1) s ms
+  marks_same : Marks base n j s ms → ((m : ℕ) → m < n → is_parent m (row_on base j s) ≡ false) → Marks base n (j + 1) s ms
   marks_same k f = record { size = k.size; each = λ m h. k.each m h ∙ ap bit (same_any m (f m h)) }
 
-  marks_set : (i : ℕ) → i < n → Marks base n j s ms → ((m : ℕ) → m < n → is-parent m (row_on base j s) ≡ eqb m i) → Marks base n (j + 1) s (set ms i 1)
+  marks_set : (i : ℕ) → i < n → Marks base n j s ms → ((m : ℕ) → m < n → is_parent m (row_on base j s) ≡ eqb m i) → Marks base n (j + 1) s (set ms i 1)
   marks_set i l k f = record { size = length-set ms i 1 ∙ k.size; each = λ m h. go m h (eqb m i) refl }
     where
-      go : (m : ℕ) → m < n → (b : Bool) → eqb m i ≡ b → get_or (set ms i 1) m 0 ≡ bit (any (is-parent m) (rows_at base (j + 1) s))
+      go : (m : ℕ) → m < n → (b : Bool) → eqb m i ≡ b → get_or (set ms i 1) m 0 ≡ bit (any (is_parent m) (rows_at base (j + 1) s))
       go m h true q =
           let z = k.size in
           ap (λ (x : ℕ). get_or (set ms i 1) x 0) (eqb-true m i q) ∙ (get_or-set_same ms i 1 0 (omega arith) ∙ ap bit (true_any m (f m h ∙ q)))
@@ -495,23 +495,23 @@ take-blank n m ms e h =
 
 module _ (base n k : ℕ) (s : List ℕ) where
   -- what is still to be found from row j on
-  unfoldable pub linksFrom : ℕ → Option ℕ
-  linksFrom j = first_true (k + j) (map (bad_link (rows_at base n s)) (rows_from base j n s))
+  unfoldable pub links_from : ℕ → Option ℕ
+  links_from j = first_true (k + j) (map (bad_link (rows_at base n s)) (rows_from base j n s))
 
-  pub links_all : first_true k (bad_links (rows_at base n s)) ≡ linksFrom 0
-  unfolding linksFrom bad_links
+  pub links_all : first_true k (bad_links (rows_at base n s)) ≡ links_from 0
+  unfolding links_from bad_links
   links_all = rw (add-zero k) (ap (λ (l : List Row). first_true k (map (bad_link (rows_at base n s)) l)) (rows_all base n s))
 
-  pub links_bad : (j : ℕ) → j < n → bad_link (rows_at base n s) (row_on base j s) ≡ true → linksFrom j ≡ some (k + j)
-  unfolding linksFrom first_true
+  pub links_bad : (j : ℕ) → j < n → bad_link (rows_at base n s) (row_on base j s) ≡ true → links_from j ≡ some (k + j)
+  unfolding links_from first_true
   links_bad j h e = rw (rows_next base j n s h, e)
 
-  pub links_next : (j : ℕ) → j < n → bad_link (rows_at base n s) (row_on base j s) ≡ false → linksFrom j ≡ linksFrom (j + 1)
-  unfolding linksFrom first_true
+  pub links_next : (j : ℕ) → j < n → bad_link (rows_at base n s) (row_on base j s) ≡ false → links_from j ≡ links_from (j + 1)
+  unfolding links_from first_true
   links_next j h e = rw (rows_next base j n s h, e, add-one j, add-suc k j)
 
-  pub links_end : (j : ℕ) → n ≤ j → linksFrom j ≡ none
-  unfolding linksFrom first_true
+  pub links_end : (j : ℕ) → n ≤ j → links_from j ≡ none
+  unfolding links_from first_true
   links_end j h = rw (rows_none base j n s h)
 
   -- where parents are there, the kind decides

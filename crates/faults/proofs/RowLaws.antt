@@ -118,28 +118,28 @@ rows_none base j n s h = items_none row_of row_size (base + j * row_size) (n - j
 
 module _ (base n k : ℕ) (s : List ℕ) where
   -- what is still to be found from row j on
-  unfoldable pub badFrom : ℕ → Option ℕ
-  badFrom j = first_true (k + j) (bad_rows (rev_before base j s) (rows_from base j n s))
+  unfoldable pub bad_from : ℕ → Option ℕ
+  bad_from j = first_true (k + j) (bad_rows (rev_before base j s) (rows_from base j n s))
 
-  pub bad_all : first_true k (bad_rows none (rows_at base n s)) ≡ badFrom 0
-  unfolding badFrom
+  pub bad_all : first_true k (bad_rows none (rows_at base n s)) ≡ bad_from 0
+  unfolding bad_from
   bad_all = rw (rows_all base n s, add-zero k)
 
   abbrev row : ℕ → Row
   row j = row_at (base + j * row_size) s
 
-  pub bad_alone : (j : ℕ) → j < n → bad_row (row j) ≡ true → badFrom j ≡ some (k + j)
-  unfolding badFrom first_true bad_rows
+  pub bad_alone : (j : ℕ) → j < n → bad_row (row j) ≡ true → bad_from j ≡ some (k + j)
+  unfolding bad_from first_true bad_rows
   bad_alone j h e = rw (rows_next base j n s h, e)
 
-  pub bad_order : (j : ℕ) → j < n → bad_row (row j) ≡ false → row_not_above (rev_before base j s) (row j).rev ≡ true → badFrom j ≡ some (k + j)
-  unfolding badFrom first_true bad_rows
+  pub bad_order : (j : ℕ) → j < n → bad_row (row j) ≡ false → row_not_above (rev_before base j s) (row j).rev ≡ true → bad_from j ≡ some (k + j)
+  unfolding bad_from first_true bad_rows
   bad_order j h e f = rw (rows_next base j n s h, e, f)
 
-  pub bad_next : (j : ℕ) → j < n → bad_row (row j) ≡ false → row_not_above (rev_before base j s) (row j).rev ≡ false → badFrom j ≡ badFrom (j + 1)
-  unfolding badFrom first_true bad_rows
+  pub bad_next : (j : ℕ) → j < n → bad_row (row j) ≡ false → row_not_above (rev_before base j s) (row j).rev ≡ false → bad_from j ≡ bad_from (j + 1)
+  unfolding bad_from first_true bad_rows
   bad_next j h e f = rw (rows_next base j n s h, e, f, add-one j, add-suc k j)
 
-  pub bad_end : (j : ℕ) → n ≤ j → badFrom j ≡ none
-  unfolding badFrom first_true bad_rows
+  pub bad_end : (j : ℕ) → n ≤ j → bad_from j ≡ none
+  unfolding bad_from first_true bad_rows
   bad_end j h = rw (rows_none base j n s h)

@@ -32,18 +32,18 @@ module _ {A : Type 0} (item : A → Rule) (end : Rule) where
 
 module _ {A : Type 0} (value : A → Rule) where
   -- member = string name-separator value
-  unfoldable pub memberOf : List ℕ × A → Rule
-  memberOf m = spelt string m.0 then name_separator then value m.1
+  unfoldable pub member_of : List ℕ × A → Rule
+  member_of m = spelt string m.0 then name_separator then value m.1
 
-  unfoldable pub objectOf : List (List ℕ × A) → Rule
-  objectOf ms = begin_object then items memberOf end_object ms
+  unfoldable pub object_of : List (List ℕ × A) → Rule
+  object_of ms = begin_object then items member_of end_object ms
 
   unfoldable pub array_of : List A → Rule
   array_of vs = begin_array then items value end_array vs
 
   unfoldable pub form_of : Form A → Rule
   form_of (plain t) = spelt scalar t
-  form_of (object ms) = objectOf ms
+  form_of (object ms) = object_of ms
   form_of (array vs) = array_of vs
 
 unfoldable pub value_of : (d : ℕ) → Json d → Rule
@@ -52,4 +52,4 @@ value_of (suc d) j = form_of (value_of d) j
 
 -- the members of a line
 unfoldable pub line_of : List (List ℕ × Json 15) → List ℕ → Type 0
-line_of ms s = (ws then objectOf (value_of 15) ms then ws) s []
+line_of ms s = (ws then object_of (value_of 15) ms then ws) s []

@@ -10,7 +10,7 @@ use borrow.Author.Tests.{leb-true, eqb-true}
 use Rattle.json_text.specs.Grammar as grammar
 use Rattle.json_text.specs.Grammar.{Rule, byte, range, ◌then◌, ◌or◌, option, many, white, ws, tail, utf8_two, utf8_three, utf8_four, utf8, unescaped, simple, hex, char, string}
 use Rattle.json_text.specs.Grammar.{literal, digit, int, frac, exp, number, scalar}
-use Rattle.json_text.specs.Members.{plain, object, array, Json, spelt, others, items, memberOf, objectOf, array_of, form_of, value_of, line_of}
+use Rattle.json_text.specs.Members.{plain, object, array, Json, spelt, others, items, member_of, object_of, array_of, form_of, value_of, line_of}
 use Rattle.json_text.specs.Tight.{begin_array, end_array, begin_object, end_object, name_separator, value_separator}
 
 -- ---- rules
@@ -249,33 +249,33 @@ module _ {A : Type 0} (item : A → Rule) (end : Rule) (i : Finder item) (e : Re
       first none = item_first (i a)
 
 module _ {A : Type 0} (v : A → Rule) (f : Finder v) where
-  f_member : Finder (memberOf v)
-  unfolding memberOf ◌then◌ f_name r_name_separator
+  f_member : Finder (member_of v)
+  unfolding member_of ◌then◌ f_name r_name_separator
   f_member a = named (f_name a)
     where
-      valued : (t b c : List ℕ) → spelt string t a b → name_separator b c → Option (Found v c) → Option (Found (memberOf v) a)
+      valued : (t b c : List ℕ) → spelt string t a b → name_separator b c → Option (Found v c) → Option (Found (member_of v) a)
       valued t b c p q none = none
       valued t b c p q (some x) = some (record { what = (t, x.what); rest = x.rest; is = (b, (p, (c, (q, x.is)))) })
 
-      colon : (t b : List ℕ) → spelt string t a b → Option (Read name_separator b) → Option (Found (memberOf v) a)
+      colon : (t b : List ℕ) → spelt string t a b → Option (Read name_separator b) → Option (Found (member_of v) a)
       colon t b p none = none
       colon t b p (some x) = valued t b x.rest p x.is (f x.rest)
 
-      named : Option (Found (spelt string) a) → Option (Found (memberOf v) a)
+      named : Option (Found (spelt string) a) → Option (Found (member_of v) a)
       named none = none
       named (some x) = colon x.what x.rest x.is (r_name_separator x.rest)
 
-  f_object : Finder (objectOf v)
-  unfolding objectOf begin_object end_object ◌then◌ r_byte r_then r_ws f_items f_member
+  f_object : Finder (object_of v)
+  unfolding object_of begin_object end_object ◌then◌ r_byte r_then r_ws f_items f_member
   f_object a = opened (r_then _ _ (r_byte 123) r_ws a)
     where
-      listed : (b : List ℕ) → (byte 123 then ws) a b → Option (Found (items (memberOf v) end_object) b) → Option (Found (objectOf v) a)
+      listed : (b : List ℕ) → (byte 123 then ws) a b → Option (Found (items (member_of v) end_object) b) → Option (Found (object_of v) a)
       listed b p none = none
       listed b p (some x) = some (record { what = x.what; rest = x.rest; is = (b, (p, x.is)) })
 
-      opened : Option (Read (byte 123 then ws) a) → Option (Found (objectOf v) a)
+      opened : Option (Read (byte 123 then ws) a) → Option (Found (object_of v) a)
       opened none = none
-      opened (some x) = listed x.rest x.is (f_items (memberOf v) end_object f_member (r_then _ _ r_ws (r_byte 125)) x.rest)
+      opened (some x) = listed x.rest x.is (f_items (member_of v) end_object f_member (r_then _ _ r_ws (r_byte 125)) x.rest)
 
   f_array : Finder (array_of v)
   unfolding array_of begin_array end_array ◌then◌ r_byte r_then r_ws f_items
@@ -298,7 +298,7 @@ f_value (suc d) a = by_scalar (f_value d) (f_scalar a)
     by_array none = none
     by_array (some x) = some (record { what = array x.what; rest = x.rest; is = x.is })
 
-    by_object : Finder (value_of d) → Option (Found (objectOf (value_of d)) a) → Option (Found (value_of (suc d)) a)
+    by_object : Finder (value_of d) → Option (Found (object_of (value_of d)) a) → Option (Found (value_of (suc d)) a)
     by_object f (some x) = some (record { what = object x.what; rest = x.rest; is = x.is })
     by_object f none = by_array (f_array (value_of d) f a)
 
@@ -313,15 +313,15 @@ unfoldable pub line_read : (s : List ℕ) → Option ((ms : List (List ℕ × Js
 unfolding line_of ◌then◌ r_ws f_object f_value
 line_read s = start (r_ws s)
   where
-    done : (a b : List ℕ) (ms : List (List ℕ × Json 15)) → ws s a → objectOf (value_of 15) ms a b → (c : List ℕ) → ws b c → Option ((ms : List (List ℕ × Json 15)) × line_of ms s)
+    done : (a b : List ℕ) (ms : List (List ℕ × Json 15)) → ws s a → object_of (value_of 15) ms a b → (c : List ℕ) → ws b c → Option ((ms : List (List ℕ × Json 15)) × line_of ms s)
     done a b ms p q [] w = some (ms, (a, (p, (b, (q, w)))))
     done a b ms p q (x ∷ c) w = none
 
-    end : (a b : List ℕ) (ms : List (List ℕ × Json 15)) → ws s a → objectOf (value_of 15) ms a b → Option (Read ws b) → Option ((ms : List (List ℕ × Json 15)) × line_of ms s)
+    end : (a b : List ℕ) (ms : List (List ℕ × Json 15)) → ws s a → object_of (value_of 15) ms a b → Option (Read ws b) → Option ((ms : List (List ℕ × Json 15)) × line_of ms s)
     end a b ms p q none = none
     end a b ms p q (some w) = done a b ms p q w.rest w.is
 
-    middle : (a : List ℕ) → ws s a → Option (Found (objectOf (value_of 15)) a) → Option ((ms : List (List ℕ × Json 15)) × line_of ms s)
+    middle : (a : List ℕ) → ws s a → Option (Found (object_of (value_of 15)) a) → Option ((ms : List (List ℕ × Json 15)) × line_of ms s)
     middle a p none = none
     middle a p (some x) = end a x.rest x.what p x.is (r_ws x.rest)
 

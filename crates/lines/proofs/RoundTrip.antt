@@ -27,7 +27,7 @@ use Rattle.rules.proofs.OrderLaws.{order_bytes_self}
 use Rattle.union.proofs.Winners.{leaf_content}
 use Rattle.json_text.specs.Grammar as grammar
 use Rattle.json_text.specs.Grammar.{byte, ◌then◌, ◌or◌, white, ws, scalar}
-use Rattle.json_text.specs.Members.{Form, plain, object, array, Json, memberOf, form_of, value_of, line_of, spelt}
+use Rattle.json_text.specs.Members.{Form, plain, object, array, Json, member_of, form_of, value_of, line_of, spelt}
 use Rattle.lines.specs.Said.{each, quote, quoted, but_last, unquote, of_string, of_plain, is_name, named, read_hash, read_rev}
 use Rattle.lines.specs.Take.{Members, read_ids, read_revisions, optional, read_true, read_label, read_content, Line, read_line}
 use Rattle.lines.specs.Take.{other_revisions, unwritable, is_writable, as_write, line_refusals, take_in, TakesIn}
@@ -121,7 +121,7 @@ revisions_shown d n hs h k b =
     )
     b)
 
-content_shown : (d : ℕ) (c : Content) → IsContent c → (b : List ℕ) → memberOf (value_of (suc d)) (content_member c) (content_text c ++ b) b
+content_shown : (d : ℕ) (c : Content) → IsContent c → (b : List ℕ) → member_of (value_of (suc d)) (content_member c) (content_text c ++ b) b
 unfolding value_of form_of content_member unwritable any is_writable text
 content_shown d (Live n) h =
     member_shown (value_of (suc d)) (text "label") (plain (decimal n)) (decimal n) refl

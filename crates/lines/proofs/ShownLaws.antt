@@ -15,7 +15,7 @@ use Rattle.rules.proofs.ChoiceLaws.{or_left, or_right}
 use Rattle.rules.proofs.MapLaws.{none≢some}
 use Rattle.json_text.specs.Grammar as grammar
 use Rattle.json_text.specs.Grammar.{Rule, byte, range, ◌then◌, ◌or◌, option, many, ws, unescaped, char, string, literal, digit, int, number, scalar}
-use Rattle.json_text.specs.Members.{spelt, others, items, memberOf, objectOf, array_of}
+use Rattle.json_text.specs.Members.{spelt, others, items, member_of, object_of, array_of}
 use Rattle.json_text.specs.Tight.{begin_array, end_array, begin_object, end_object, name_separator, value_separator}
 use Rattle.json_text.proofs.WsLaws.{lt_or_ge}
 use Rattle.lines.specs.Said.{all, quote, quoted, is_digit, is_empty, spare_zero, decimal_value, read_number, is_hex_digit, hex_value, read_hash}
@@ -225,12 +225,12 @@ module _ {A : Type 0} (item : A → Rule) (end : Rule) (e : List ℕ) (b : List 
   items_shown (x ∷ xs) (t ∷ ts) s = rw append_assoc (and_more ts ++ (e ++ b), (s.0 (and_more ts ++ (e ++ b)), others_shown xs ts s.1))
 
 module _ {A : Type 0} (value : A → Rule) where
-  pub object_shown : (ms : List (List ℕ × A)) (ts : List (List ℕ)) → Shown (memberOf value) ms ts
-      → (b : List ℕ) → objectOf value ms (text "{" ++ (listed ts ++ (text "}" ++ b))) b
-  unfolding objectOf begin_object end_object ◌then◌ ws byte text
+  pub object_shown : (ms : List (List ℕ × A)) (ts : List (List ℕ)) → Shown (member_of value) ms ts
+      → (b : List ℕ) → object_of value ms (text "{" ++ (listed ts ++ (text "}" ++ b))) b
+  unfolding object_of begin_object end_object ◌then◌ ws byte text
   object_shown ms ts s b =
       let a = listed ts ++ (125 ∷ b) in
-      (a, ((a, (refl, grammar.none)), items_shown (memberOf value) end_object (125 ∷ []) b (125 ∷ b, (grammar.none, refl)) ms ts s))
+      (a, ((a, (refl, grammar.none)), items_shown (member_of value) end_object (125 ∷ []) b (125 ∷ b, (grammar.none, refl)) ms ts s))
 
   pub array_shown : (vs : List A) (ts : List (List ℕ)) → Shown value vs ts
       → (b : List ℕ) → array_of value vs (text "[" ++ (listed ts ++ (text "]" ++ b))) b
@@ -241,8 +241,8 @@ module _ {A : Type 0} (value : A → Rule) where
 
   -- a member of a written name
   pub member_shown : (n : List ℕ) (x : A) (t : List ℕ) → unwritable n ≡ false → ((b : List ℕ) → value x (t ++ b) b)
-      → (b : List ℕ) → memberOf value (quoted n, x) (member_text n t ++ b) b
-  unfolding memberOf name_separator member_text ◌then◌ ws byte text
+      → (b : List ℕ) → member_of value (quoted n, x) (member_text n t ++ b) b
+  unfolding member_of name_separator member_text ◌then◌ ws byte text
   member_shown n x t e f b =
       let a = t ++ b in
       rw append_assoc (58 ∷ a, (quoted_spelt n (58 ∷ a) e, (a, ((58 ∷ a, (grammar.none, (a, (refl, grammar.none)))), f b))))

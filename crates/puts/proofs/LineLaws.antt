@@ -94,8 +94,8 @@ shape q c m o u b w z id rev rs st ids i r d h am nt e close = simp (append_asso
 
 module _ (i : Id) (t : Tree) (v : Revision) (hs : List Hash) (p : path_of t v ≡ v.hash ∷ hs) where
   -- with the content's member m
-  abbrev joinedWith : List ℕ → Type 0
-  joinedWith m =
+  abbrev JoinedWith : List ℕ → Type 0
+  JoinedWith m =
       text "{"
       ++ (listed
       (member_text (text "_id") (quoted i)
@@ -106,7 +106,7 @@ module _ (i : Id) (t : Tree) (v : Revision) (hs : List Hash) (p : path_of t v �
       ++ (text "}" ++ text newline))
       ≡ start_text i v ++ (path_text v hs ++ (text "\"" ++ (text "]" ++ (text "}" ++ (text "," ++ (m ++ (text "}" ++ text newline)))))))
 
-  joined_with : (m : List ℕ) → joinedWith m
+  joined_with : (m : List ℕ) → JoinedWith m
   unfolding listed and_more member_text quoted revisions_text ids_text start_text path_text text
   joined_with m =
       rw p

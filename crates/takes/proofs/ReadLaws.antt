@@ -15,7 +15,7 @@ use Rattle.rules.specs.Room.{number_most}
 use Rattle.json_text.specs.declared.Skip.{Skip}
 use Rattle.json_text.specs.declared.Skip.TheVariants.{To, Wrong}
 use Rattle.json_text.specs.Tight.{value, array, object}
-use Rattle.json_text.specs.Members.{Form, plain, Json, objectOf, array_of, value_of}
+use Rattle.json_text.specs.Members.{Form, plain, Json, object_of, array_of, value_of}
 use Rattle.json_text.specs.Skips.{Ends, EndsAt, WholeAt, NoText, Placed, Whether}
 use Rattle.json_text.proofs.WsLaws.{at_byte, byte_at}
 use Rattle.json_text.proofs.CharLaws.{exact_skips}
@@ -64,7 +64,7 @@ array_ends d {us} {s} {v} {e} l b =
     let q : suc d - 1 ≡ d = omega arith in
     skips_array s v (suc d) b (λ z. omega arith) (To e) (rw q (exact_skips (array (value d)) s v (To e) (array_text d l)))
 
-pub object_ends : (d : ℕ) {ms : List (List ℕ × Json d)} {s : List ℕ} {v e : ℕ} → ListAt (objectOf (value_of d)) ms s v e → get_or s v 0 ≡ 123 → EndsAt (value (suc d)) s v e
+pub object_ends : (d : ℕ) {ms : List (List ℕ × Json d)} {s : List ℕ} {v e : ℕ} → ListAt (object_of (value_of d)) ms s v e → get_or s v 0 ≡ 123 → EndsAt (value (suc d)) s v e
 object_ends d {ms} {s} {v} {e} l b =
     let q : suc d - 1 ≡ d = omega arith in
     skips_object s v (suc d) b (λ z. omega arith) (To e) (rw q (exact_skips (object (value d)) s v (To e) (object_text d l)))
@@ -74,7 +74,7 @@ pub no_whole : (d : ℕ) (s : List ℕ) (v e : ℕ) → EndsAt (value d) s v e �
 unfolding NoText
 no_whole d s v e h f r p z = f (subst Ends (h.only r p z) z)
 
-pub no_object_value : (d : ℕ) (s : List ℕ) (v : ℕ) → get_or s v 0 ≡ 123 → NoList (objectOf (value_of d)) s v → NoText (value (suc d)) s v
+pub no_object_value : (d : ℕ) (s : List ℕ) (v : ℕ) → get_or s v 0 ≡ 123 → NoList (object_of (value_of d)) s v → NoText (value (suc d)) s v
 unfolding NoText
 no_object_value d s v b l r p z =
     no_object_text d s v l r (value_object d (drop v s) (drop (v + 1) s) r (at_byte s v 123 b (omega arith)) p)

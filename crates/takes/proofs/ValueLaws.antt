@@ -11,7 +11,7 @@ use lib.ListN.{length, take, drop, get_or}
 use Rattle.rules.specs.Choice.{pick, maybe}
 use Rattle.json_text.specs.Grammar.{scalar}
 use Rattle.json_text.specs.Tight.{value}
-use Rattle.json_text.specs.Members.{Form, plain, Json, spelt, objectOf, array_of, form_of, value_of}
+use Rattle.json_text.specs.Members.{Form, plain, Json, spelt, object_of, array_of, form_of, value_of}
 use Rattle.json_text.proofs.WsLaws.{at_byte, byte_at}
 use Rattle.values.proofs.ValueLaws.{object_first, array_first}
 use Rattle.values.proofs.ReadingLaws.{reads_object, reads_array}

@@ -5,7 +5,7 @@ use Prim.Native.Nat.{ℕ, ◌+◌, ◌-◌, ◌≤◌, ◌<◌}
 use native.Mathlib.Omega.{arith}
 use lib.ListN.{length, take, drop, get_or}
 use Rattle.json_text.specs.Tight.{value}
-use Rattle.json_text.specs.Members.{Json, memberOf, objectOf, value_of}
+use Rattle.json_text.specs.Members.{Json, member_of, object_of, value_of}
 use Rattle.json_text.specs.declared.Skip.{Skip}
 use Rattle.json_text.specs.declared.Skip.TheVariants.{To, Wrong}
 use Rattle.json_text.specs.Skips.{WsTo, Placed}
@@ -32,7 +32,7 @@ use Rattle.takes.proofs.SpotLaws.{NameIs, name_is, spots_none, spots_more}
 -- the members of done are read, and their spots are p
 pub record Walking (d : ℕ) (s : List ℕ) (at i : ℕ) (p : Spots) : Type 0 where
   pub done : List (List ℕ × Json d)
-  pub leads : Leads (memberOf (value_of d)) 125 (objectOf (value_of d)) s at i done
+  pub leads : Leads (member_of (value_of d)) 125 (object_of (value_of d)) s at i done
   pub spots : SpotsAre d s done p
 
 module _ {d : ℕ} {s : List ℕ} {at : ℕ} (brace : get_or s at 0 ≡ 123) where
@@ -51,12 +51,12 @@ name_found {s} {i} r e v h f = subst (Names s i) f h
 
 module _ {d : ℕ} {s : List ℕ} {at i : ℕ} {p : Spots} (w : Walking d s at i p) where
   -- no name, and so no object
-  pub no_name_here : (r : Name) → Names s i r → r ≡ name.Wrong → NoList (objectOf (value_of d)) s at
+  pub no_name_here : (r : Name) → Names s i r → r ≡ name.Wrong → NoList (object_of (value_of d)) s at
   unfolding NoMember
   no_name_here r h f = leads_no_item (objects d) w.leads (member_no_item d s i (subst (Names s i) f h d))
 
   -- no value, and so no object
-  pub no_value_here : {e v : ℕ} → NameAt s i e v → (y : Skip) → Placed (value d) s v y → y ≡ Wrong → NoList (objectOf (value_of d)) s at
+  pub no_value_here : {e v : ℕ} → NameAt s i e v → (y : Skip) → Placed (value d) s v y → y ≡ Wrong → NoList (object_of (value_of d)) s at
   no_value_here {e} {v} n y h f =
       leads_no_item (objects d) w.leads (member_no_item d s i (no_value d s i (To e) n.named e refl n.colon n.white n.is v n.spaces y h f))
 
@@ -120,6 +120,6 @@ module _ {d : ℕ} {s : List ℕ} {at i : ℕ} {p q : Spots} {m : Member} {k : �
   walks_last {e} r o f =
       record { members = now_done; is = walk_last (objects d) w.leads stood.item (subst (Follows s m.value_end 125) f o); spots = one_more_lem }
 
-  pub walks_wrong : (r : After) → Follows s m.value_end 125 r → r ≡ after.Wrong → NoList (objectOf (value_of d)) s at
+  pub walks_wrong : (r : After) → Follows s m.value_end 125 r → r ≡ after.Wrong → NoList (object_of (value_of d)) s at
   unfolding stood
   walks_wrong r o f = walk_wrong (objects d) w.leads stood.item (subst (Follows s m.value_end 125) f o)

@@ -6,7 +6,7 @@ use Rattle.rules.specs.Replica.{Hash}
 use Rattle.rules.specs.Room.{number_most}
 use Rattle.json_text.specs.Rfc.{line}
 use Rattle.json_text.specs.Tight.{value}
-use Rattle.json_text.specs.Members.{Json, objectOf, value_of}
+use Rattle.json_text.specs.Members.{Json, object_of, value_of}
 use Rattle.json_text.specs.Skips.{Placed}
 use Rattle.values.specs.Reading.{NoList}
 use Rattle.lines.specs.Said.{read_number}
@@ -54,7 +54,7 @@ pub record InnerIs (d : ℕ) (s : List ℕ) (at : ℕ) (x : Inner) (after : List
 
 abbrev pub InnerCase : ℕ → List ℕ → ℕ → List ℕ → InnerWalk → Type 0
 InnerCase d s at after (inner.Passed x) = InnerIs d s at x after
-InnerCase d s at after inner.Wrong = NoList (objectOf (value_of (suc (suc d)))) s at
+InnerCase d s at after inner.Wrong = NoList (object_of (value_of (suc (suc d)))) s at
 
 pub record InnerWalks (d : ℕ) (s : List ℕ) (at : ℕ) (before : List ℕ) (r : InnerWalk) (after : List ℕ) : Type 0 where
   pub room : length after ≡ length before
@@ -104,7 +104,7 @@ pub record OuterIs (d : ℕ) (s : List ℕ) (at : ℕ) (x : Outer) (after : List
 
 abbrev pub OuterCase : ℕ → List ℕ → ℕ → List ℕ → OuterWalk → Type 0
 OuterCase d s at after (outer.Passed x) = OuterIs d s at x after
-OuterCase d s at after outer.Wrong = NoList (objectOf (value_of (suc (suc (suc d))))) s at
+OuterCase d s at after outer.Wrong = NoList (object_of (value_of (suc (suc (suc d))))) s at
 
 pub record OuterWalks (d : ℕ) (s : List ℕ) (at : ℕ) (before : List ℕ) (r : OuterWalk) (after : List ℕ) : Type 0 where
   pub room : length after ≡ length before

@@ -2,7 +2,7 @@
 use Rattle.std.specs.Prelude.{List, [], ◌≡◌, ℕ, ◌+◌, get_or}
 use Rattle.json_text.specs.Grammar.{string}
 use Rattle.json_text.specs.Tight.{member, value}
-use Rattle.json_text.specs.Members.{Json, objectOf, value_of, line_of}
+use Rattle.json_text.specs.Members.{Json, object_of, value_of, line_of}
 use Rattle.json_text.specs.Skips.{WsTo, OnlyAt, NoText}
 use Rattle.values.specs.Reading.{ListAt}
 use Rattle.lines.specs.Take.{Members}
@@ -30,7 +30,7 @@ Names s at name.Wrong = NoMember s at
 -- an object whose values go at most d deep stands at `at`, and these are the spots of its members
 pub record Passes (d : ℕ) (s : List ℕ) (at : ℕ) (w : Walked) : Type 0 where
   pub members : List (List ℕ × Json d)
-  pub is : ListAt (objectOf (value_of d)) members s at w.end
+  pub is : ListAt (object_of (value_of d)) members s at w.end
   pub spots : SpotsAre d s members w.spots
 
 -- the text is a line, and these are the spots of its members

@@ -7,7 +7,7 @@ use native.Mathlib.Omega.{arith}
 use lib.ListN.{length, get_or, take, drop, length-append, length-drop}
 use Rattle.json_text.specs.Grammar.{byte, range, ◌then◌, ◌or◌, many, none, more, unescaped, char, string, scalar}
 use Rattle.json_text.specs.Tight.{value, object, array}
-use Rattle.json_text.specs.Members.{Form, plain, Json, spelt, objectOf, array_of, form_of, value_of}
+use Rattle.json_text.specs.Members.{Form, plain, Json, spelt, object_of, array_of, form_of, value_of}
 use Rattle.json_text.specs.Skips.{OnlyAt}
 use Rattle.values.specs.Reading.{ItemAt}
 use lib.Seq.{drop-drop, drop-append_seam, take-append_seam}
@@ -28,7 +28,7 @@ scalar_no_123 : (a b z : List ℕ) → scalar a b → a ≡ 123 ∷ z → ⊥
 scalar_no_123 a b z p e = starts_not (scalar_starts a b p) (λ k. k.no123 refl) e
 
 pub first_object : (d : ℕ) (j : Json (suc d)) (a b z : List ℕ) → a ≡ 123 ∷ z → value_of (suc d) j a b
-    → (ms : List (List ℕ × Json d)) × (j ≡ Form.object ms) × objectOf (value_of d) ms a b
+    → (ms : List (List ℕ × Json d)) × (j ≡ Form.object ms) × object_of (value_of d) ms a b
 unfolding value_of form_of spelt
 first_object d (plain t) a b z e (p, q) = absurd (scalar_no_123 a b z p e)
 first_object d (Form.object ms) a b z e p = (ms, refl, p)
@@ -57,7 +57,7 @@ first_plain d (Form.array vs) a b f g p = let t = array_first (value d) a b (rea
 
 -- the same at places of a text
 pub object_at : (d : ℕ) (j : Json (suc d)) (s : List ℕ) (v e : ℕ) → get_or s v 0 ≡ 123 → value_of (suc d) j (drop v s) (drop e s)
-    → (ms : List (List ℕ × Json d)) × (j ≡ Form.object ms) × objectOf (value_of d) ms (drop v s) (drop e s)
+    → (ms : List (List ℕ × Json d)) × (j ≡ Form.object ms) × object_of (value_of d) ms (drop v s) (drop e s)
 object_at d j s v e c p = first_object d j (drop v s) (drop e s) (drop (v + 1) s) (at_byte s v 123 c (omega arith)) p
 
 pub array_at : (d : ℕ) (j : Json (suc d)) (s : List ℕ) (v e : ℕ) → get_or s v 0 ≡ 91 → value_of (suc d) j (drop v s) (drop e s)

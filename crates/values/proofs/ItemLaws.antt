@@ -7,7 +7,7 @@ use lib.ListN.{get_or, take, drop, take-append-drop}
 use lib.Seq.{drop-drop}
 use Rattle.json_text.specs.Grammar.{Rule, byte, ◌then◌, ws, string}
 use Rattle.json_text.specs.Tight.{name_separator, member, object, array, value}
-use Rattle.json_text.specs.Members.{Json, spelt, memberOf, objectOf, array_of, value_of}
+use Rattle.json_text.specs.Members.{Json, spelt, member_of, object_of, array_of, value_of}
 use Rattle.json_text.specs.Skips.{WsTo, Ends, EndsAt, OnlyAt, NoText, WholeAt}
 use Rattle.values.specs.declared.Member.{Member}
 use Rattle.values.specs.Places.{ClosedAt, FirstAt, MoreAt, NeitherAt, MemberAt}
@@ -49,12 +49,12 @@ value_no_item d s at f y r p k = f r (reads_value d y (drop at s) r p) k
 
 pub member_item : (d : ℕ) {s : List ℕ} {at ne n v e : ℕ} → OnlyAt string s at ne → WsTo s ne n → get_or s n 0 ≡ 58 → WsTo s (n + 1) v
     → EndsAt (value d) s v e → Ends (drop e s) → MemberRead d s at ne v e
-unfolding memberOf ◌then◌ name_separator byte ws spelt
+unfolding member_of ◌then◌ name_separator byte ws spelt
 member_item d {s} {at} {ne} {n} {v} {e} name w c u h z =
     let x = value_item d h z in
     let f : drop n s ≡ 58 ∷ drop (n + 1) s = at_byte s n 58 c (omega arith) in
     let q : drop at s ≡ take (ne - at) (drop at s) ++ drop ne s = cut s at ne (omega (arith, name.from)) in
-    let is : memberOf (value_of d) (take (ne - at) (drop at s), x.0) (drop at s) (drop e s) =
+    let is : member_of (value_of d) (take (ne - at) (drop at s), x.0) (drop at s) (drop e s) =
     (drop ne s, ((name.is, q), (drop v s, ((drop n s, (w.is, (drop (n + 1) s, (f, u.is)))), x.1.is)))) in
     record {
       value = x.0;
@@ -67,7 +67,7 @@ member_item d {s} {at} {ne} {n} {v} {e} name w c u h z =
       };
     }
 
-pub member_no_item : (d : ℕ) (s : List ℕ) (at : ℕ) → NoText (member (value d)) s at → NoItem (memberOf (value_of d)) s at
+pub member_no_item : (d : ℕ) (s : List ℕ) (at : ℕ) → NoText (member (value d)) s at → NoItem (member_of (value_of d)) s at
 unfolding NoText NoItem
 member_no_item d s at f y r p k = f r (reads_member d y (drop at s) r p) k
 
@@ -98,7 +98,7 @@ module _ {A : Type 0} {left close : ℕ} {item : A → Rule} {P : List A → Rul
 
 -- ---- a list and its text
 
-pub object_text : (d : ℕ) {ms : List (List ℕ × Json d)} {s : List ℕ} {at e : ℕ} → ListAt (objectOf (value_of d)) ms s at e → OnlyAt (object (value d)) s at e
+pub object_text : (d : ℕ) {ms : List (List ℕ × Json d)} {s : List ℕ} {at e : ℕ} → ListAt (object_of (value_of d)) ms s at e → OnlyAt (object (value d)) s at e
 object_text d {ms} {s} {at} {e} h = record {
   from = h.from;
   within = h.within;
@@ -115,7 +115,7 @@ array_text d {vs} {s} {at} {e} h = record {
 }
 
 -- no list, and so no text
-pub no_object_text : (d : ℕ) (s : List ℕ) (at : ℕ) → NoList (objectOf (value_of d)) s at → (r : List ℕ) → object (value d) (drop at s) r → ⊥
+pub no_object_text : (d : ℕ) (s : List ℕ) (at : ℕ) → NoList (object_of (value_of d)) s at → (r : List ℕ) → object (value d) (drop at s) r → ⊥
 unfolding NoList
 no_object_text d s at f r p = let t = object_reads d (drop at s) r p in f t.0 r t.1
 

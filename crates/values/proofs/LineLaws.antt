@@ -7,7 +7,7 @@ use lib.ListN.{length, get_or, drop, drop_of_length-le}
 use Rattle.json_text.specs.Grammar.{◌then◌, ws}
 use Rattle.json_text.specs.Tight.{object, value}
 use Rattle.json_text.specs.Rfc.{line}
-use Rattle.json_text.specs.Members.{Json, objectOf, value_of, line_of}
+use Rattle.json_text.specs.Members.{Json, object_of, value_of, line_of}
 use Rattle.json_text.specs.Skips.{WsTo, EndsAt, NoText}
 use Rattle.values.specs.Reading.{ListAt, NoList}
 use Rattle.values.proofs.ValueLaws.{line_no_brace, line_no_object, line_more}
@@ -19,11 +19,11 @@ module _ {s : List ℕ} {i : ℕ} (w : WsTo s 0 i) where
   pub no_brace : (get_or s i 0 ≡ 123 → ⊥) → line s [] → ⊥
   no_brace f l = line_no_brace s i w f (line_from_rfc s [] l)
 
-  pub no_object : NoList (objectOf (value_of 15)) s i → line s [] → ⊥
+  pub no_object : NoList (object_of (value_of 15)) s i → line s [] → ⊥
   unfolding NoText
   no_object f l = line_no_object s i w (λ r p z. no_object_text 15 s i f r p) (line_from_rfc s [] l)
 
-  module _ {ms : List (List ℕ × Json 15)} {e n : ℕ} (o : ListAt (objectOf (value_of 15)) ms s i e) (v : WsTo s e n) where
+  module _ {ms : List (List ℕ × Json 15)} {e n : ℕ} (o : ListAt (object_of (value_of 15)) ms s i e) (v : WsTo s e n) where
     -- nothing stands after the white space
     pub line_holds : length s ≤ n → line_of ms s
     unfolding line_of ◌then◌ ws

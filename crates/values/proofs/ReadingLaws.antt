@@ -8,7 +8,7 @@ use native.Mathlib.Omega.{arith}
 use Rattle.json_text.specs.Grammar.{Rule, byte, ◌then◌, ◌or◌, option, many, none, more, ws, string, scalar}
 use Rattle.json_text.specs.Tight.{begin_array, end_array, begin_object, end_object, name_separator, value_separator, array, member, object, value, line}
 use Rattle.json_text.specs.Rfc as rfc
-use Rattle.json_text.specs.Members.{Form, plain, Json, spelt, others, items, memberOf, objectOf, array_of, form_of, value_of, line_of}
+use Rattle.json_text.specs.Members.{Form, plain, Json, spelt, others, items, member_of, object_of, array_of, form_of, value_of, line_of}
 use Rattle.json_text.specs.Skips.{Solid, Ends, Follow}
 use Rattle.json_text.proofs.WsLaws.{head_eq, tail_eq, many_join, ws_only, ws_ends}
 use Rattle.json_text.proofs.ListLaws.{Headed, solid_byte, Closes, closes_array, closes_object, dark_comma}
@@ -66,30 +66,30 @@ module _ {A : Type 0} (v : Rule) (item : A → Rule) (end : Rule) (g : Texts ite
       let t = reads_others xs k b o in (t.to, (inr (k, (g x a k p, t.is)), t.ends))
 
 module _ {A : Type 0} (v : Rule) (read : A → Rule) (f : Reads v read) where
-  member_reads_by : (a b : List ℕ) → member v a b → (m : List ℕ × A) × memberOf read m a b
-  unfolding member memberOf ◌then◌ spelt
+  member_reads_by : (a b : List ℕ) → member v a b → (m : List ℕ × A) × member_of read m a b
+  unfolding member member_of ◌then◌ spelt
   member_reads_by a b (m, (s, (k, (n, p)))) =
       let t = f_string a m s in
       let x = f k b p in
       ((t.text, x.0), (m, ((s, t.is), (k, (n, x.1)))))
 
-  object_reads_by : (a b : List ℕ) → object v a b → (ms : List (List ℕ × A)) × objectOf read ms a b
-  unfolding object objectOf ◌then◌
+  object_reads_by : (a b : List ℕ) → object v a b → (ms : List (List ℕ × A)) × object_of read ms a b
+  unfolding object object_of ◌then◌
   object_reads_by a b (k, (s, p)) =
-      let t = items_reads (member v) (memberOf read) end_object member_reads_by k b p in (t.0, (k, (s, t.1)))
+      let t = items_reads (member v) (member_of read) end_object member_reads_by k b p in (t.0, (k, (s, t.1)))
 
   array_reads_by : (a b : List ℕ) → array v a b → (vs : List A) × array_of read vs a b
   unfolding array array_of ◌then◌
   array_reads_by a b (k, (s, p)) = let t = items_reads v read end_array f k b p in (t.0, (k, (s, t.1)))
 
 module _ {A : Type 0} (v : Rule) (read : A → Rule) (g : Texts read v) where
-  reads_member_by : (m : List ℕ × A) (a b : List ℕ) → memberOf read m a b → member v a b
-  unfolding member memberOf ◌then◌ spelt
+  reads_member_by : (m : List ℕ × A) (a b : List ℕ) → member_of read m a b → member v a b
+  unfolding member member_of ◌then◌ spelt
   reads_member_by m a b (k, ((s, e), (l, (n, p)))) = (k, (s, (l, (n, g m.1 l b p))))
 
-  reads_object_by : (ms : List (List ℕ × A)) (a b : List ℕ) → objectOf read ms a b → object v a b
-  unfolding object objectOf ◌then◌
-  reads_object_by ms a b (k, (s, p)) = (k, (s, reads_items (member v) (memberOf read) end_object reads_member_by ms k b p))
+  reads_object_by : (ms : List (List ℕ × A)) (a b : List ℕ) → object_of read ms a b → object v a b
+  unfolding object object_of ◌then◌
+  reads_object_by ms a b (k, (s, p)) = (k, (s, reads_items (member v) (member_of read) end_object reads_member_by ms k b p))
 
   reads_array_by : (vs : List A) (a b : List ℕ) → array_of read vs a b → array v a b
   unfolding array array_of ◌then◌
@@ -104,10 +104,10 @@ reads_value (suc d) (plain t) a b (p, e) = inl p
 reads_value (suc d) (Form.object ms) a b p = inr (inl (reads_object_by (value d) (value_of d) (reads_value d) ms a b p))
 reads_value (suc d) (Form.array vs) a b p = inr (inr (reads_array_by (value d) (value_of d) (reads_value d) vs a b p))
 
-pub reads_member : (d : ℕ) (m : List ℕ × Json d) (a b : List ℕ) → memberOf (value_of d) m a b → member (value d) a b
+pub reads_member : (d : ℕ) (m : List ℕ × Json d) (a b : List ℕ) → member_of (value_of d) m a b → member (value d) a b
 reads_member d m a b p = reads_member_by (value d) (value_of d) (reads_value d) m a b p
 
-pub reads_object : (d : ℕ) (ms : List (List ℕ × Json d)) (a b : List ℕ) → objectOf (value_of d) ms a b → object (value d) a b
+pub reads_object : (d : ℕ) (ms : List (List ℕ × Json d)) (a b : List ℕ) → object_of (value_of d) ms a b → object (value d) a b
 reads_object d ms a b p = reads_object_by (value d) (value_of d) (reads_value d) ms a b p
 
 pub reads_array : (d : ℕ) (vs : List (Json d)) (a b : List ℕ) → array_of (value_of d) vs a b → array (value d) a b
@@ -122,10 +122,10 @@ value_reads (suc d) a b (inl p) = let t = value_text 0 a b p in (plain t.text, (
 value_reads (suc d) a b (inr (inl p)) = let t = object_reads_by (value d) (value_of d) (value_reads d) a b p in (Form.object t.0, t.1)
 value_reads (suc d) a b (inr (inr p)) = let t = array_reads_by (value d) (value_of d) (value_reads d) a b p in (Form.array t.0, t.1)
 
-pub member_reads : (d : ℕ) (a b : List ℕ) → member (value d) a b → (m : List ℕ × Json d) × memberOf (value_of d) m a b
+pub member_reads : (d : ℕ) (a b : List ℕ) → member (value d) a b → (m : List ℕ × Json d) × member_of (value_of d) m a b
 member_reads d a b p = member_reads_by (value d) (value_of d) (value_reads d) a b p
 
-pub object_reads : (d : ℕ) (a b : List ℕ) → object (value d) a b → (ms : List (List ℕ × Json d)) × objectOf (value_of d) ms a b
+pub object_reads : (d : ℕ) (a b : List ℕ) → object (value d) a b → (ms : List (List ℕ × Json d)) × object_of (value_of d) ms a b
 object_reads d a b p = object_reads_by (value d) (value_of d) (value_reads d) a b p
 
 pub array_reads : (d : ℕ) (a b : List ℕ) → array (value d) a b → (vs : List (Json d)) × array_of (value_of d) vs a b
@@ -145,8 +145,8 @@ pub record Listing {A : Type 0} (left close : ℕ) (item : A → Rule) (P : List
   pub to : (xs : List A) (a b : List ℕ) → P xs a b → Bracketed left close item xs a b
   pub back : (xs : List A) (a b : List ℕ) → Bracketed left close item xs a b → P xs a b
 
-pub objects : (d : ℕ) → Listing 123 125 (memberOf (value_of d)) (objectOf (value_of d))
-unfolding Bracketed objectOf begin_object end_object Headed
+pub objects : (d : ℕ) → Listing 123 125 (member_of (value_of d)) (object_of (value_of d))
+unfolding Bracketed object_of begin_object end_object Headed
 objects d = record {
   pos = omega arith;
   closes = closes_object;
@@ -236,8 +236,8 @@ spelt_is P t a b (p, e) = p
 pair_eq : {A B : Type 0} (x y : A) (u w : B) → x ≡ y → u ≡ w → ◌≡◌ {A = A × B} (x, u) (y, w)
 pair_eq x y u w e f = rw (e, f) refl
 
-member_one_by : (d : ℕ) → One (value_of d) → One (memberOf (value_of d))
-unfolding memberOf ◌then◌ name_separator ws byte Headed
+member_one_by : (d : ℕ) → One (value_of d) → One (member_of (value_of d))
+unfolding member_of ◌then◌ name_separator ws byte Headed
 member_one_by d F m n a b c (x, (s, (y, ((o, (t, (z, (g, h)))), p)))) k (x', (s', (y', ((o', (t', (z', (g', h')))), p')))) l =
     let xs : x ≡ x' = alone_string a x x' (spelt_is string m.0 a x s) (spelt_is string n.0 a x' s') in
     let os : o ≡ o' = ws_only (rw xs at t) (rw g (solid_byte z dark_colon)) t' (rw g' (solid_byte z' dark_colon)) in
@@ -247,10 +247,10 @@ member_one_by d F m n a b c (x, (s, (y, ((o, (t, (z, (g, h)))), p)))) k (x', (s'
     (pair_eq m.0 n.0 m.1 n.1 (spelt_one string m.0 n.0 a x x' s s' xs) v.0, v.1)
 
 -- by the first byte, a reading is of one kind
-no_both : {A : Type 0} (v : Rule) (read : A → Rule) → Texts read v → (ms : List (List ℕ × A)) (vs : List A) (a b c : List ℕ) → objectOf read ms a b → array_of read vs a c → ⊥
+no_both : {A : Type 0} (v : Rule) (read : A → Rule) → Texts read v → (ms : List (List ℕ × A)) (vs : List A) (a b c : List ℕ) → object_of read ms a b → array_of read vs a c → ⊥
 no_both v read g ms vs a b c p q = 91-123 (array_first v a c (reads_array_by v read g vs a c q)).1 (object_first v a b (reads_object_by v read g ms a b p)).1
 
-no_object : {A : Type 0} (v : Rule) (read : A → Rule) → Texts read v → (t : List ℕ) (ms : List (List ℕ × A)) (a b c : List ℕ) → spelt scalar t a b → objectOf read ms a c → ⊥
+no_object : {A : Type 0} (v : Rule) (read : A → Rule) → Texts read v → (t : List ℕ) (ms : List (List ℕ × A)) (a b c : List ℕ) → spelt scalar t a b → object_of read ms a c → ⊥
 no_object v read g t ms a b c p q = starts_not (scalar_starts a b (spelt_is scalar t a b p)) (λ k. k.no123 refl) (object_first v a c (reads_object_by v read g ms a c q)).1
 
 no_array : {A : Type 0} (v : Rule) (read : A → Rule) → Texts read v → (t : List ℕ) (vs : List A) (a b c : List ℕ) → spelt scalar t a b → array_of read vs a c → ⊥
@@ -270,7 +270,7 @@ value_one (suc d) (plain t) (Form.object ns) a b c p k q l = absurd (no_object (
 value_one (suc d) (plain t) (Form.array ns) a b c p k q l = absurd (no_array (value d) (value_of d) (reads_value d) t ns a b c p q)
 value_one (suc d) (Form.object ms) (plain u) a b c p k q l = absurd (no_object (value d) (value_of d) (reads_value d) u ms a c b q p)
 value_one (suc d) (Form.object ms) (Form.object ns) a b c p k q l =
-    let z = listing_one 123 125 (memberOf (value_of d)) (objectOf (value_of d)) (objects d) (member_one_by d (value_one d)) ms ns a b c p q in
+    let z = listing_one 123 125 (member_of (value_of d)) (object_of (value_of d)) (objects d) (member_one_by d (value_one d)) ms ns a b c p q in
     (ap Form.object z.0, z.1)
 value_one (suc d) (Form.object ms) (Form.array ns) a b c p k q l = absurd (no_both (value d) (value_of d) (reads_value d) ms ns a b c p q)
 value_one (suc d) (Form.array ms) (plain u) a b c p k q l = absurd (no_array (value d) (value_of d) (reads_value d) u ms a c b q p)
@@ -279,11 +279,11 @@ value_one (suc d) (Form.array ms) (Form.array ns) a b c p k q l =
     let z = listing_one 91 93 (value_of d) (array_of (value_of d)) (arrays d) (value_one d) ms ns a b c p q in
     (ap Form.array z.0, z.1)
 
-pub member_one : (d : ℕ) → One (memberOf (value_of d))
+pub member_one : (d : ℕ) → One (member_of (value_of d))
 member_one d = member_one_by d (value_one d)
 
-pub object_one : (d : ℕ) (ms ns : List (List ℕ × Json d)) (a b c : List ℕ) → objectOf (value_of d) ms a b → objectOf (value_of d) ns a c → (ms ≡ ns) × (b ≡ c)
-object_one d ms ns a b c p q = listing_one 123 125 (memberOf (value_of d)) (objectOf (value_of d)) (objects d) (member_one d) ms ns a b c p q
+pub object_one : (d : ℕ) (ms ns : List (List ℕ × Json d)) (a b c : List ℕ) → object_of (value_of d) ms a b → object_of (value_of d) ns a c → (ms ≡ ns) × (b ≡ c)
+object_one d ms ns a b c p q = listing_one 123 125 (member_of (value_of d)) (object_of (value_of d)) (objects d) (member_one d) ms ns a b c p q
 
 pub array_one : (d : ℕ) (vs us : List (Json d)) (a b c : List ℕ) → array_of (value_of d) vs a b → array_of (value_of d) us a c → (vs ≡ us) × (b ≡ c)
 array_one d vs us a b c p q = listing_one 91 93 (value_of d) (array_of (value_of d)) (arrays d) (value_one d) vs us a b c p q

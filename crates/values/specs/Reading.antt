@@ -2,7 +2,7 @@
 -- would be to read on.
 use Rattle.std.specs.Prelude.{◌≡◌, List, ◌∷◌, ◌++◌, ℕ, ◌-◌, ◌≤◌, ◌<◌, length, take, drop}
 use Rattle.json_text.specs.Grammar.{Rule, byte, ◌then◌, ws}
-use Rattle.json_text.specs.Members.{Json, others, memberOf, value_of}
+use Rattle.json_text.specs.Members.{Json, others, member_of, value_of}
 use Rattle.json_text.specs.Skips.{Ends}
 
 -- the item x stands at i and ends at e, and no other item ends where a value can end
@@ -48,5 +48,5 @@ NoList {A} P s at = (xs : List A) (b : List ℕ) → P xs (drop at s) b → ⊥
 -- a member stands at `at`: its name's text, up to ne, and its value, from v to e
 pub record MemberRead (d : ℕ) (s : List ℕ) (at ne v e : ℕ) : Type 0 where
   pub value : Json d
-  pub item : ItemAt (memberOf (value_of d)) (take (ne - at) (drop at s), value) s at e
+  pub item : ItemAt (member_of (value_of d)) (take (ne - at) (drop at s), value) s at e
   pub holds : ItemAt (value_of d) value s v e

@@ -131,20 +131,20 @@ module _ (at : ℕ) (s : List ℕ) (number : ℕ) (path : List ℕ) (k : ℕ) wh
   other_number n = not_rev (other_rev row.0 v (λ e. n (sym (number_there at s) ∙ ap (λ (x : Revision). x.number.0) e)))
 
   -- whether the hash that stands at a place of the row is the j-th of the path
-  abbrev pub sameHash : ℕ → ℕ → Bool
-  sameHash in' j = is_equal (order_bytes (part (at + in') hash_size s) (part (j * hash_size) hash_size path))
+  abbrev pub same_hash : ℕ → ℕ → Bool
+  same_hash in' j = is_equal (order_bytes (part (at + in') hash_size s) (part (j * hash_size) hash_size path))
 
   module _ (same : (fields at s).rev.number.0 ≡ number - k) where
-    by_hash : same_rev row.0 v ≡ sameHash hash_in k
+    by_hash : same_rev row.0 v ≡ same_hash hash_in k
     unfolding same_rev rows.rev_at rev_at hash_at
     by_hash =
         ap is_equal (rev_level (rows.rev_at at s) v (number_there at s ∙ same)
         ∙ ap (λ (h : List ℕ). order_bytes h (part (k * hash_size) hash_size path)) (rev_hash at s))
 
-    pub other_hash : sameHash hash_in k ≡ false → holds row v o ≡ false
+    pub other_hash : same_hash hash_in k ≡ false → holds row v o ≡ false
     other_hash e = not_rev (by_hash ∙ e)
 
-    module _ (hash : sameHash hash_in k ≡ true) where
+    module _ (hash : same_hash hash_in k ≡ true) where
       pub none_given : count_of path ≤ k + 1 → holds row v o ≡ true
       unfolding parent_at
       none_given h =
@@ -166,7 +166,7 @@ module _ (at : ℕ) (s : List ℕ) (number : ℕ) (path : List ℕ) (k : ℕ) wh
         pub none_held : (fields at s).flag ≡ 0 → holds row v o ≡ false
         none_held e = by_flag true (eq-eqb (fields at s).flag 0 e)
 
-        pub by_parent : ((fields at s).flag ≡ 0 → ⊥) → holds row v o ≡ sameHash parent_hash_in (k + 1)
+        pub by_parent : ((fields at s).flag ≡ 0 → ⊥) → holds row v o ≡ same_hash parent_hash_in (k + 1)
         unfolding same_rev rev_at hash_at
         by_parent n =
             let m : pred (fields at s).rev.number.0 ≡ number - (k + 1) = (let z = sub-one (fields at s).rev.number.0 in omega arith) in

@@ -95,13 +95,13 @@ module _ {s : List ℕ} {w : Write} {absent : Bool} {p : Plan} {v : Verdict} (j 
   abbrev r : Replica
   r = replica_of s
 
-  abbrev whole-plan : Plan
-  whole-plan = plan_of (tree_of r w.id) (gives w)
+  abbrev whole_plan : Plan
+  whole_plan = plan_of (tree_of r w.id) (gives w)
 
-  tests : first_that (judged r absent p) ≡ first_that (judged r (is_none (document_of r w.id)) whole-plan)
+  tests : first_that (judged r absent p) ≡ first_that (judged r (is_none (document_of r w.id)) whole_plan)
   tests = ap₂ (λ (a : Bool) (x : Plan). first_that (judged r a x)) (sym j.absence) j.plan
 
-  reach_is : p.reach ≡ whole-plan.reach
+  reach_is : p.reach ≡ whole_plan.reach
   reach_is = ap (λ (x : Plan). x.reach) j.plan
 
   pub does_refused : (n : Refusal) → v ≡ verdict.Refused n → Does s w (written.Refused n) s
@@ -119,13 +119,13 @@ module _ {s : List ℕ} {w : Write} {absent : Bool} {p : Plan} {v : Verdict} (j 
   pub does_same : v ≡ verdict.Clear → p.reach ≡ 0 → Does s w (written.Accepted Unchanged) s
   does_same e z =
       does s w (written.Accepted Unchanged) r s
-      (write_same r w j.form (sym tests ∙ clear_tests e) (eq-eqb whole-plan.reach 0 (sym reach_is ∙ z)))
+      (write_same r w j.form (sym tests ∙ clear_tests e) (eq-eqb whole_plan.reach 0 (sym reach_is ∙ z)))
       (holds_itself s j.laid)
 
   pub does_changed : v ≡ verdict.Clear → (p.reach ≡ 0 → ⊥) → (s' : List ℕ) → Holds (added r w) s' → Does s w (written.Accepted Changed) s'
   does_changed e z s' h =
       does s w (written.Accepted Changed) (added r w) s'
-      (write_changed r w j.form (sym tests ∙ clear_tests e) (ne_eqb whole-plan.reach 0 (λ q. z (reach_is ∙ q)))) h
+      (write_changed r w j.form (sym tests ∙ clear_tests e) (ne_eqb whole_plan.reach 0 (λ q. z (reach_is ∙ q)))) h
 
 -- ---- the tree that is written to
 

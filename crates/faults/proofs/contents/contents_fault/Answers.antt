@@ -9,13 +9,13 @@ use Rattle.rules.specs.Choice.{pick}
 use Rattle.rules.specs.Layout.{head_of}
 use Rattle.images.proofs.Entries.{entry_rules}
 use Rattle.faults.specs.Places.{row_place, entry_at, id_before}
-use Rattle.faults.proofs.FirstLaws.{contentsFrom, contents_all, contents_bad, contents_next, contents_end}
+use Rattle.faults.proofs.FirstLaws.{contents_from, contents_all, contents_bad, contents_next, contents_end}
 use Rattle.faults.proofs.contents.contents_fault.Goals as goal
 
 pub loop-i-init : goal.loop-i-init
 loop-i-init c =
     let s = c.args.s.now in
-    (omega arith, omega arith, tt, contents_all s ∙ ap (λ (n : ℕ). contentsFrom s n (head_of s).revisions 0 0) (sym c.documents-d.ensures.is))
+    (omega arith, omega arith, tt, contents_all s ∙ ap (λ (n : ℕ). contents_from s n (head_of s).revisions 0 0) (sym c.documents-d.ensures.is))
 
 pub entry_bad-requires : goal.entry_bad-requires
 entry_bad-requires c =
@@ -38,7 +38,7 @@ loop-i-preserved c =
       omega arith,
       omega (arith, c.rows-sum.ensures.small),
       rw (add-one i) (entry_rules (row_place d c.loop-i.sum) (id_before i s) (entry_at i s) good).most,
-      c.loop-i.invariant.3 ∙ (next ∙ ap (λ (k : ℕ). contentsFrom s d (head_of s).revisions (i + 1) (c.loop-i.sum + k)) (sym c.rows-sum.ensures.is)),
+      c.loop-i.invariant.3 ∙ (next ∙ ap (λ (k : ℕ). contents_from s d (head_of s).revisions (i + 1) (c.loop-i.sum + k)) (sym c.rows-sum.ensures.is)),
     )
 
 pub returns-then-sum-revisions : goal.returns-then-sum-revisions

@@ -4,7 +4,7 @@ use native.Mathlib.Omega.{arith}
 use Rattle.rules.specs.Faults.{bad_link}
 use Rattle.faults.specs.Places.{rows_in}
 use Rattle.faults.specs.Links.{row_on}
-use Rattle.faults.proofs.LinkLaws.{linksFrom, links_all, links_bad, links_next, links_end, link_missing, kind_says}
+use Rattle.faults.proofs.LinkLaws.{links_from, links_all, links_bad, links_next, links_end, link_missing, kind_says}
 use Rattle.faults.proofs.links.kinds_in.Goals as goal
 
 pub loop-j-init : goal.loop-j-init
@@ -41,7 +41,7 @@ returns-then-missing-body c =
     let a = c.args in
     let e : c.loop-j.j ≡ a.missing = omega arith in
     let gone = link_missing a.body.base a.body.rows a.k a.s.now a.missing (c.requires.marked.missing.at c.if-missing-body.true) in
-    sym (c.loop-j.invariant.1 ∙ (ap (linksFrom a.body.base a.body.rows a.k a.s.now) e
+    sym (c.loop-j.invariant.1 ∙ (ap (links_from a.body.base a.body.rows a.k a.s.now) e
     ∙ links_bad a.body.base a.body.rows a.k a.s.now a.missing c.if-missing-body.true gone))
 
 pub returns : goal.returns

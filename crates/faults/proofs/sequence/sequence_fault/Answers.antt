@@ -6,13 +6,13 @@ use native.Mathlib.Omega.{arith}
 use borrow.Author.Tests.{eq-eqb, ne_eqb}
 use Rattle.rules.specs.Choice.{pick}
 use Rattle.rules.specs.Layout.{head_of}
-use Rattle.faults.proofs.FirstLaws.{sequenceFrom, sequence_all, sequence_bad, sequence_next, sequence_end}
+use Rattle.faults.proofs.FirstLaws.{sequence_from, sequence_all, sequence_bad, sequence_next, sequence_end}
 use Rattle.faults.proofs.sequence.sequence_fault.Goals as goal
 
 pub loop-i-init : goal.loop-i-init
 loop-i-init c =
     let s = c.args.s.now in
-    (omega arith, sequence_all s ∙ ap (λ (n : ℕ). sequenceFrom s n (head_of s).seq 0 0) (sym c.documents-d.ensures.is))
+    (omega arith, sequence_all s ∙ ap (λ (n : ℕ). sequence_from s n (head_of s).seq 0 0) (sym c.documents-d.ensures.is))
 
 pub returns-then-own_bad : goal.returns-then-own_bad
 returns-then-own_bad c =
@@ -27,7 +27,7 @@ loop-i-preserved c =
     let good = rw c.own-q.ensures.is at (sym c.own_bad.ensures ∙ c.if-own_bad.false) in
     let next = sequence_next s d (head_of s).seq c.loop-i.i c.loop-i.most.0 (omega arith) good in
     let most = ap (λ (k : ℕ). max c.loop-i.most.0 k) (sym c.own-q.ensures.is) ∙ sym c.larger-most.ensures in
-    (omega arith, c.loop-i.invariant.1 ∙ (next ∙ ap (λ (k : ℕ). sequenceFrom s d (head_of s).seq (c.loop-i.i + 1) k) most))
+    (omega arith, c.loop-i.invariant.1 ∙ (next ∙ ap (λ (k : ℕ). sequence_from s d (head_of s).seq (c.loop-i.i + 1) k) most))
 
 pub returns-then-most-last : goal.returns-then-most-last
 returns-then-most-last c =

@@ -5,7 +5,7 @@ use mathlib.Core.Path.{sym, subst}
 use Rattle.writes.proofs.form.in_range.Goals as goal
 
 pub returns-in-Live : goal.returns-in-Live
-returns-in-Live c = (sym c.in-Live.is, subst IsContent (sym c.in-Live.is) (omega (arith, c.known_told-1.given)))
+returns-in-Live c = (sym c.in-Live.is, subst IsContent (sym c.in-Live.is) (omega arith))
 
 pub returns-in-Deleted : goal.returns-in-Deleted
 returns-in-Deleted c = (sym c.in-Deleted.is, subst IsContent (sym c.in-Deleted.is) tt)

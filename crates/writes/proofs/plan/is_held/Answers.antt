@@ -7,7 +7,7 @@ use borrow.Author.Tests.{not-true, not-false}
 use Rattle.rules.specs.Layout.{hash_in}
 use Rattle.rules.specs.Room.{hash_size}
 use Rattle.writes.specs.Path.{count_of}
-use Rattle.writes.proofs.SettledLaws.{fields, sameHash, other_number, other_hash, none_given, none_held, by_parent}
+use Rattle.writes.proofs.SettledLaws.{fields, same_hash, other_number, other_hash, none_given, none_held, by_parent}
 use Rattle.writes.proofs.plan.is_held.Goals as goal
 
 pub returns-then-n-number : goal.returns-then-n-number
@@ -23,13 +23,13 @@ pub returns-then-not-same_hashes : goal.returns-then-not-same_hashes
 returns-then-not-same_hashes c =
     let same : let a = c.args in (fields a.p a.b.now).rev.number.0 ≡ a.number.0 - a.k = let g = c.number-n.ensures.is in let z = c.if-n-number.false in omega arith in
     let a = c.args in
-    sym (other_hash a.p a.b.now a.number.0 a.path.now a.k same (sym c.same_hashes.ensures ∙ not-true _ c.if-not-same_hashes.true))
+    sym (other_hash a.p a.b.now a.number.0 a.path.now a.k same (sym c.same_hashes.ensures ∙ c.if-not-same_hashes.true))
 
 pub returns-then-next-path : goal.returns-then-next-path
 unfolding count_of
 returns-then-next-path c =
     let same : let a = c.args in (fields a.p a.b.now).rev.number.0 ≡ a.number.0 - a.k = let g = c.number-n.ensures.is in let z = c.if-n-number.false in omega arith in
-    let hash : let a = c.args in sameHash a.p a.b.now a.number.0 a.path.now a.k hash_in a.k ≡ true = sym c.same_hashes.ensures ∙ not-false _ c.if-not-same_hashes.false in
+    let hash : let a = c.args in same_hash a.p a.b.now a.number.0 a.path.now a.k hash_in a.k ≡ true = sym c.same_hashes.ensures ∙ c.if-not-same_hashes.false in
     let a = c.args in
     let w = c.if-next-path.true in
     sym (none_given a.p a.b.now a.number.0 a.path.now a.k same hash (omega arith))
@@ -38,7 +38,7 @@ pub returns-then-known-eq0 : goal.returns-then-known-eq0
 unfolding count_of
 returns-then-known-eq0 c =
     let same : let a = c.args in (fields a.p a.b.now).rev.number.0 ≡ a.number.0 - a.k = let g = c.number-n.ensures.is in let z = c.if-n-number.false in omega arith in
-    let hash : let a = c.args in sameHash a.p a.b.now a.number.0 a.path.now a.k hash_in a.k ≡ true = sym c.same_hashes.ensures ∙ not-false _ c.if-not-same_hashes.false in
+    let hash : let a = c.args in same_hash a.p a.b.now a.number.0 a.path.now a.k hash_in a.k ≡ true = sym c.same_hashes.ensures ∙ c.if-not-same_hashes.false in
     let more : let a = c.args in a.k + 1 < count_of a.path.now = let w = c.if-next-path.false in let l = c.requires.1.within in omega arith in
     let a = c.args in
     let z = sym c.known.ensures.is ∙ c.if-known-eq0.true in
@@ -60,7 +60,7 @@ pub returns : goal.returns
 unfolding count_of
 returns c =
     let same : let a = c.args in (fields a.p a.b.now).rev.number.0 ≡ a.number.0 - a.k = let g = c.number-n.ensures.is in let z = c.if-n-number.false in omega arith in
-    let hash : let a = c.args in sameHash a.p a.b.now a.number.0 a.path.now a.k hash_in a.k ≡ true = sym c.same_hashes.ensures ∙ not-false _ c.if-not-same_hashes.false in
+    let hash : let a = c.args in same_hash a.p a.b.now a.number.0 a.path.now a.k hash_in a.k ≡ true = sym c.same_hashes.ensures ∙ c.if-not-same_hashes.false in
     let more : let a = c.args in a.k + 1 < count_of a.path.now = let w = c.if-next-path.false in let l = c.requires.1.within in omega arith in
     let a = c.args in
     let e = by_parent a.p a.b.now a.number.0 a.path.now a.k same hash more

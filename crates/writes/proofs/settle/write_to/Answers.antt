@@ -49,10 +49,10 @@ returns-in-Refused c =
       content = subst IsContent (sym c.in_range-content.ensures.0) c.in_range-content.ensures.1;
     } in
     let asked : Write = whole c.args.content in
-    let wrote : {r : Written} {s' : List ℕ} → Does old given r s' → Wrote old asked r s' = λ {r} {s'} d. subst (λ (x : Content). Wrote old (whole x) r s') c.in_range-content.ensures.0 (law.wrote c.requires.stored is-write d) in
+    let wrote : (r : Written) (s' : List ℕ) → Does old given r s' → Wrote old asked r s' = λ r s' d. subst (λ (x : Content). Wrote old (whole x) r s') c.in_range-content.ensures.0 (law.wrote c.requires.stored is-write d) in
     let can : CanWrite old c.args.found given = subst (λ (x : Content). CanWrite old c.args.found (whole x)) (sym c.in_range-content.ensures.0) c.requires in
     let judged : law.Judged old given (is_absent c.args.found) c.plan_path-p.result c.judge.result = law.is_judged can c.body_at-body.ensures c.plan_path-p.ensures c.judge.ensures in
-    wrote (law.does_refused judged c.in-Refused.n c.in-Refused.is)
+    wrote _ _ (law.does_refused judged c.in-Refused.n c.in-Refused.is)
 
 pub returns-then-p-eq0 : goal.returns-then-p-eq0
 returns-then-p-eq0 c =
@@ -67,10 +67,10 @@ returns-then-p-eq0 c =
       content = subst IsContent (sym c.in_range-content.ensures.0) c.in_range-content.ensures.1;
     } in
     let asked : Write = whole c.args.content in
-    let wrote : {r : Written} {s' : List ℕ} → Does old given r s' → Wrote old asked r s' = λ {r} {s'} d. subst (λ (x : Content). Wrote old (whole x) r s') c.in_range-content.ensures.0 (law.wrote c.requires.stored is-write d) in
+    let wrote : (r : Written) (s' : List ℕ) → Does old given r s' → Wrote old asked r s' = λ r s' d. subst (λ (x : Content). Wrote old (whole x) r s') c.in_range-content.ensures.0 (law.wrote c.requires.stored is-write d) in
     let can : CanWrite old c.args.found given = subst (λ (x : Content). CanWrite old c.args.found (whole x)) (sym c.in_range-content.ensures.0) c.requires in
     let judged : law.Judged old given (is_absent c.args.found) c.plan_path-p.result c.judge.result = law.is_judged can c.body_at-body.ensures c.plan_path-p.ensures c.judge.ensures in
-    wrote (law.does_same judged c.in_default.is c.if-p-eq0.true)
+    wrote _ _ (law.does_same judged c.in_default.is c.if-p-eq0.true)
 
 pub apply-requires : goal.apply-requires
 apply-requires c =
@@ -80,13 +80,13 @@ apply-requires c =
     let can : CanWrite old c.args.found given = subst (λ (x : Content). CanWrite old c.args.found (whole x)) (sym c.in_range-content.ensures.0) c.requires in
     let judged : law.Judged old given (is_absent c.args.found) c.plan_path-p.result c.judge.result = law.is_judged can c.body_at-body.ensures c.plan_path-p.ensures c.judge.ensures in
     let ready : law.Ready old c.args.found given c.body_at-body.result c.plan_path-p.result c.lesser-m.result = record {
-  can can;
-  body = c.body_at-body.ensures;
-  plan = c.plan_path-p.ensures;
-  clear = law.clear_facts judged c.in_default.is;
-  adds = c.if-p-eq0.false;
-  least = c.lesser-m.ensures;
-} in
+      can = can;
+      body = c.body_at-body.ensures;
+      plan = c.plan_path-p.ensures;
+      clear = law.clear_facts judged c.in_default.is;
+      adds = c.if-p-eq0.false;
+      least = c.lesser-m.ensures;
+    } in
     law.held_can_apply ready c.in-At.is
 
 pub add_document-requires : goal.add_document-requires
@@ -97,13 +97,13 @@ add_document-requires c =
     let can : CanWrite old c.args.found given = subst (λ (x : Content). CanWrite old c.args.found (whole x)) (sym c.in_range-content.ensures.0) c.requires in
     let judged : law.Judged old given (is_absent c.args.found) c.plan_path-p.result c.judge.result = law.is_judged can c.body_at-body.ensures c.plan_path-p.ensures c.judge.ensures in
     let ready : law.Ready old c.args.found given c.body_at-body.result c.plan_path-p.result c.lesser-m.result = record {
-  can can;
-  body = c.body_at-body.ensures;
-  plan = c.plan_path-p.ensures;
-  clear = law.clear_facts judged c.in_default.is;
-  adds = c.if-p-eq0.false;
-  least = c.lesser-m.ensures;
-} in
+      can = can;
+      body = c.body_at-body.ensures;
+      plan = c.plan_path-p.ensures;
+      clear = law.clear_facts judged c.in_default.is;
+      adds = c.if-p-eq0.false;
+      least = c.lesser-m.ensures;
+    } in
     law.new_can_add ready c.in-Gap.is
 
 pub body_of-requires : goal.body_of-requires
@@ -114,13 +114,13 @@ body_of-requires c =
     let can : CanWrite old c.args.found given = subst (λ (x : Content). CanWrite old c.args.found (whole x)) (sym c.in_range-content.ensures.0) c.requires in
     let judged : law.Judged old given (is_absent c.args.found) c.plan_path-p.result c.judge.result = law.is_judged can c.body_at-body.ensures c.plan_path-p.ensures c.judge.ensures in
     let ready : law.Ready old c.args.found given c.body_at-body.result c.plan_path-p.result c.lesser-m.result = record {
-  can can;
-  body = c.body_at-body.ensures;
-  plan = c.plan_path-p.ensures;
-  clear = law.clear_facts judged c.in_default.is;
-  adds = c.if-p-eq0.false;
-  least = c.lesser-m.ensures;
-} in
+      can = can;
+      body = c.body_at-body.ensures;
+      plan = c.plan_path-p.ensures;
+      clear = law.clear_facts judged c.in_default.is;
+      adds = c.if-p-eq0.false;
+      least = c.lesser-m.ensures;
+    } in
     law.new_has ready c.in-Gap.is c.add_document.ensures
 
 pub apply-requires-in-Gap : goal.apply-requires-in-Gap
@@ -131,13 +131,13 @@ apply-requires-in-Gap c =
     let can : CanWrite old c.args.found given = subst (λ (x : Content). CanWrite old c.args.found (whole x)) (sym c.in_range-content.ensures.0) c.requires in
     let judged : law.Judged old given (is_absent c.args.found) c.plan_path-p.result c.judge.result = law.is_judged can c.body_at-body.ensures c.plan_path-p.ensures c.judge.ensures in
     let ready : law.Ready old c.args.found given c.body_at-body.result c.plan_path-p.result c.lesser-m.result = record {
-  can can;
-  body = c.body_at-body.ensures;
-  plan = c.plan_path-p.ensures;
-  clear = law.clear_facts judged c.in_default.is;
-  adds = c.if-p-eq0.false;
-  least = c.lesser-m.ensures;
-} in
+      can = can;
+      body = c.body_at-body.ensures;
+      plan = c.plan_path-p.ensures;
+      clear = law.clear_facts judged c.in_default.is;
+      adds = c.if-p-eq0.false;
+      least = c.lesser-m.ensures;
+    } in
     law.new_can_apply ready c.in-Gap.is c.add_document.ensures c.body_of.ensures
 
 pub returns-in-At : goal.returns-in-At
@@ -148,13 +148,13 @@ returns-in-At c =
     let can : CanWrite old c.args.found given = subst (λ (x : Content). CanWrite old c.args.found (whole x)) (sym c.in_range-content.ensures.0) c.requires in
     let judged : law.Judged old given (is_absent c.args.found) c.plan_path-p.result c.judge.result = law.is_judged can c.body_at-body.ensures c.plan_path-p.ensures c.judge.ensures in
     let ready : law.Ready old c.args.found given c.body_at-body.result c.plan_path-p.result c.lesser-m.result = record {
-  can can;
-  body = c.body_at-body.ensures;
-  plan = c.plan_path-p.ensures;
-  clear = law.clear_facts judged c.in_default.is;
-  adds = c.if-p-eq0.false;
-  least = c.lesser-m.ensures;
-} in
+      can = can;
+      body = c.body_at-body.ensures;
+      plan = c.plan_path-p.ensures;
+      clear = law.clear_facts judged c.in_default.is;
+      adds = c.if-p-eq0.false;
+      least = c.lesser-m.ensures;
+    } in
     let is-write : IsWrite given = let a = c.args in
     record {
       id = law.bytes_all a.id.now (λ i. omega (arith, c.shared_slice_known-1.given i));
@@ -163,9 +163,9 @@ returns-in-At c =
       content = subst IsContent (sym c.in_range-content.ensures.0) c.in_range-content.ensures.1;
     } in
     let asked : Write = whole c.args.content in
-    let wrote : {r : Written} {s' : List ℕ} → Does old given r s' → Wrote old asked r s' = λ {r} {s'} d. subst (λ (x : Content). Wrote old (whole x) r s') c.in_range-content.ensures.0 (law.wrote c.requires.stored is-write d) in
-    let changed : {s' : List ℕ} → Holds (added (replica_of old) given) s' → Wrote (old c) asked (Accepted Changed) s' = λ {s'} h. wrote (law.does_changed judged c.in_default.is c.if-p-eq0.false s' h) in
-    changed (law.held_added ready c.in-At.is c.apply.ensures)
+    let wrote : (r : Written) (s' : List ℕ) → Does old given r s' → Wrote old asked r s' = λ r s' d. subst (λ (x : Content). Wrote old (whole x) r s') c.in_range-content.ensures.0 (law.wrote c.requires.stored is-write d) in
+    let changed : (s' : List ℕ) → Holds (added (replica_of old) given) s' → Wrote old asked (Accepted Changed) s' = λ s' h. wrote _ _ (law.does_changed judged c.in_default.is c.if-p-eq0.false s' h) in
+    changed _ (law.held_added ready c.in-At.is c.apply.ensures)
 
 pub returns-in-Gap : goal.returns-in-Gap
 returns-in-Gap c =
@@ -175,13 +175,13 @@ returns-in-Gap c =
     let can : CanWrite old c.args.found given = subst (λ (x : Content). CanWrite old c.args.found (whole x)) (sym c.in_range-content.ensures.0) c.requires in
     let judged : law.Judged old given (is_absent c.args.found) c.plan_path-p.result c.judge.result = law.is_judged can c.body_at-body.ensures c.plan_path-p.ensures c.judge.ensures in
     let ready : law.Ready old c.args.found given c.body_at-body.result c.plan_path-p.result c.lesser-m.result = record {
-  can can;
-  body = c.body_at-body.ensures;
-  plan = c.plan_path-p.ensures;
-  clear = law.clear_facts judged c.in_default.is;
-  adds = c.if-p-eq0.false;
-  least = c.lesser-m.ensures;
-} in
+      can = can;
+      body = c.body_at-body.ensures;
+      plan = c.plan_path-p.ensures;
+      clear = law.clear_facts judged c.in_default.is;
+      adds = c.if-p-eq0.false;
+      least = c.lesser-m.ensures;
+    } in
     let is-write : IsWrite given = let a = c.args in
     record {
       id = law.bytes_all a.id.now (λ i. omega (arith, c.shared_slice_known-1.given i));
@@ -190,7 +190,7 @@ returns-in-Gap c =
       content = subst IsContent (sym c.in_range-content.ensures.0) c.in_range-content.ensures.1;
     } in
     let asked : Write = whole c.args.content in
-    let wrote : {r : Written} {s' : List ℕ} → Does old given r s' → Wrote old asked r s' = λ {r} {s'} d. subst (λ (x : Content). Wrote old (whole x) r s') c.in_range-content.ensures.0 (law.wrote c.requires.stored is-write d) in
-    let changed : {s' : List ℕ} → Holds (added (replica_of old) given) s' → Wrote (old c) asked (Accepted Changed) s' = λ {s'} h. wrote (law.does_changed judged c.in_default.is c.if-p-eq0.false s' h) in
+    let wrote : (r : Written) (s' : List ℕ) → Does old given r s' → Wrote old asked r s' = λ r s' d. subst (λ (x : Content). Wrote old (whole x) r s') c.in_range-content.ensures.0 (law.wrote c.requires.stored is-write d) in
+    let changed : (s' : List ℕ) → Holds (added (replica_of old) given) s' → Wrote old asked (Accepted Changed) s' = λ s' h. wrote _ _ (law.does_changed judged c.in_default.is c.if-p-eq0.false s' h) in
     let o = ready in
-    changed (law.new_added o c.in-Gap.is c.add_document.ensures c.apply-in-Gap.ensures)
+    changed _ (law.new_added o c.in-Gap.is c.add_document.ensures c.apply-in-Gap.ensures)
