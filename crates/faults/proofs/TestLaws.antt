@@ -1,15 +1,9 @@
 -- A disjunction of tests, by what follows where it fails; and an order that is not `Less`. Assumes nothing.
 use mathlib.Core.Path.{◌≡◌, refl, sym}
 use mathlib.Core.Bool.{Bool, true, false, not}
-use mathlib.Core.List.{[], ◌∷◌}
-use mathlib.Core.Logic.{inl, inr}
-use native.Mathlib.Omega.{arith}
-use denote.Enum.Declared.{tag_of}
-use types.Run.{OneOf}
 use Rattle.rules.specs.declared.Order.{Order}
 use Rattle.rules.specs.declared.Order.TheVariants.{Less, Equal, Greater}
 use Rattle.rules.specs.Order.{is_less}
-use Rattle.rules.specs.contracts.Order.{the_type}
 
 -- one of them holds
 pub holds : (b : Bool) → (b ≡ false → ⊥) → true ≡ b
@@ -22,9 +16,8 @@ last_one true true f g = refl
 last_one true false f g = g refl
 last_one false b f g = sym (f refl)
 
--- what a match tells where it is past the arm of `Less`: the tag is another's
-pub not_less : (o : Order) → OneOf (1 ∷ 2 ∷ []) (tag_of the_type o) → true ≡ not (is_less o)
-not_less Less (inl e) = absurd (omega arith)
-not_less Less (inr e) = absurd (omega arith)
+-- what a match tells where it is past the arm of `Less`
+pub not_less : (o : Order) → (o ≡ Less → ⊥) → true ≡ not (is_less o)
+not_less Less k = absurd (k refl)
 not_less Equal k = refl
 not_less Greater k = refl

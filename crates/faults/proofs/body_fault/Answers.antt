@@ -20,7 +20,7 @@ pub rule_fault-requires : goal.rule_fault-requires
 rule_fault-requires c =
     let no-contents : bad_contents c.args.s.now ≡ none = sym c.contents_fault.ensures ∙ ap placed c.in_default.is in
     let listed : Listed c.args.s.now = record { headed = c.requires; sum = rows_sum _ no-contents } in
-    record { listed listed; before = tt }
+    record { listed = listed; before = tt }
 
 pub returns-in-At-rule_fault : goal.returns-in-At-rule_fault
 returns-in-At-rule_fault c =
@@ -33,7 +33,7 @@ rule_fault-requires-2 c =
     let no-contents : bad_contents c.args.s.now ≡ none = sym c.contents_fault.ensures ∙ ap placed c.in_default.is in
     let listed : Listed c.args.s.now = record { headed = c.requires; sum = rows_sum _ no-contents } in
     let no_rows : rule_fault Rows c.args.s.now ≡ none = sym c.rule_fault.ensures ∙ ap placed c.in_default-rule_fault.is in
-    record { listed listed; before = no_rows }
+    record { listed = listed; before = no_rows }
 
 pub returns-in-At-rule_fault-2 : goal.returns-in-At-rule_fault-2
 returns-in-At-rule_fault-2 c =

@@ -12,14 +12,14 @@ pub returns-then-not-is_writable : goal.returns-then-not-is_writable
 returns-then-not-is_writable c =
     let l = c.loop-i in
     let id = c.args.id.now in
-    let e = sym c.is_writable.ensures ∙ not-true _ c.if-not-is_writable.true in
+    let e = sym c.is_writable.ensures ∙ c.if-not-is_writable.true in
     sym (l.invariant.1 ∙ unwritable_here id l.i c.loop-i-test.true e)
 
 pub loop-i-preserved : goal.loop-i-preserved
 loop-i-preserved c =
     let l = c.loop-i in
     let id = c.args.id.now in
-    let e = sym c.is_writable.ensures ∙ not-false _ c.if-not-is_writable.false in
+    let e = sym c.is_writable.ensures ∙ c.if-not-is_writable.false in
     (omega arith, l.invariant.1 ∙ unwritable_next id l.i c.loop-i-test.true e)
 
 pub returns : goal.returns

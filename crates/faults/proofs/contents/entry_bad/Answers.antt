@@ -33,7 +33,7 @@ returns-then-not-all_zero c =
     ∙ fill_slice a.i a.s.now (entry_place a.i + id_in + n.result) (entry_place a.i + count_in) c.requires.within (omega arith) (omega arith) refl in
     holds _ (λ q.
     let h = entry_rules _ _ _ q in
-    true≢false (sym (filled_if _ _ h.fill h.zero) ∙ (sym filled ∙ not-true c.all_zero.result c.if-not-all_zero.true)))
+    true≢false (sym (filled_if _ _ h.fill h.zero) ∙ (sym filled ∙ c.if-not-all_zero.true)))
 
 pub returns-then-rows-eq0 : goal.returns-then-rows-eq0
 returns-then-rows-eq0 c = holds _ (λ q. let h = entry_rules _ _ _ q in omega arith)
@@ -51,6 +51,6 @@ returns c =
     c.all_zero.ensures
     ∙ fill_slice a.i a.s.now (entry_place a.i + id_in + n.result) (entry_place a.i + count_in) c.requires.within (omega arith) (omega arith) refl in
     let a = c.args in
-    let f = filled_then _ _ (sym filled ∙ not-false c.all_zero.result c.if-not-all_zero.false) in
+    let f = filled_then _ _ (sym filled ∙ c.if-not-all_zero.false) in
     c.id_bad.ensures
     ∙ sym (entry_above a.due (id_before a.i a.s.now) (entry_at a.i a.s.now) (omega arith) (omega arith) f.0 f.1 (omega arith) (omega arith))

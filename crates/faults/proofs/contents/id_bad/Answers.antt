@@ -24,4 +24,4 @@ returns c =
     let ordered : let a = c.args in
     not (is_less c.order_bytes.result) ≡ not_above (id_before a.i a.s.now) (entry_at a.i a.s.now).id = ap (λ (o : Order). not (is_less o)) c.order_bytes.ensures
     ∙ id_order c.args.i c.args.s.now c.requires c.if-i-eq0.false _ refl c.id.ensures c.id-2.ensures in
-    not_less c.order_bytes.result c.in_default.keys2 ∙ ordered
+    not_less c.order_bytes.result c.in_default.not-Less ∙ ordered

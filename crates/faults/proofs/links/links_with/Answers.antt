@@ -31,24 +31,23 @@ mark_parents-missing-requires c =
 
 pub slice_bounds-kinds_in-end : goal.slice_bounds-kinds_in-end
 slice_bounds-kinds_in-end c =
-    let size : length c.mark_parents-missing.new.1.1.0 ≡ c.args.body.rows = c.mark_parents-missing.ensures.marks.size in
+    let size : length c.mark_parents-missing.new.marks ≡ c.args.body.rows = c.mark_parents-missing.ensures.marks.size in
     let a = c.args in
     let e = size in
-    let z = length-append c.mark_parents-missing.new.1.1.0 (drop a.body.rows a.marks.now) in
+    let z = length-append c.mark_parents-missing.new.marks (drop a.body.rows a.marks.now) in
     omega arith
 
 pub slice_bounds-kinds_in-end-2 : goal.slice_bounds-kinds_in-end-2
 slice_bounds-kinds_in-end-2 c =
-    let size : length c.mark_parents-missing.new.1.1.0 ≡ c.args.body.rows = c.mark_parents-missing.ensures.marks.size in
-    let m = c.before.before.before in
-    let a = m.args in
-    sym (ap length (take_at m.mark_parents-missing.new.1.1.0 (drop a.body.rows a.marks.now) a.body.rows size) ∙ size m)
+    let size : length c.mark_parents-missing.new.marks ≡ c.args.body.rows = c.mark_parents-missing.ensures.marks.size in
+    let a = c.args in
+    sym (ap length (take_at c.mark_parents-missing.new.marks (drop a.body.rows a.marks.now) a.body.rows size) ∙ size)
 
 pub kinds_in-requires : goal.kinds_in-requires
 kinds_in-requires c =
-    let size : length c.mark_parents-missing.new.1.1.0 ≡ c.args.body.rows = c.mark_parents-missing.ensures.marks.size in
+    let size : length c.mark_parents-missing.new.marks ≡ c.args.body.rows = c.mark_parents-missing.ensures.marks.size in
     let a = c.args in
-    let t = take_at c.mark_parents-missing.new.1.1.0 (drop a.body.rows a.marks.now) a.body.rows size in
+    let t = take_at c.mark_parents-missing.new.marks (drop a.body.rows a.marks.now) a.body.rows size in
     record {
       ordered = rows_ordered a.body a.k a.s.now c.requires.rows;
       most = c.requires.rows.most;

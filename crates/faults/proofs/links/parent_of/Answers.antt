@@ -46,8 +46,7 @@ returns-in-At c =
     let k : c.number-own.result.0 - 1 ≡ pred (number_on a.base a.j s) = omega arith in
     ap (λ (x : Found). among a.run.lo x) c.find.ensures
     ∙ parent_sought a.base a.j a.run s (c.number-own.result.0 - 1) c.parent-hash.result f k c.parent-hash.ensures.is in
-    let f = c.before.before.before in
-    ap (λ (x : Found). among f.args.run.lo x) (sym c.in-At.is) ∙ sought
+    ap (λ (x : Found). among c.args.run.lo x) (sym c.in-At.is) ∙ sought
 
 pub returns-in-Gap : goal.returns-in-Gap
 returns-in-Gap c =
@@ -59,5 +58,4 @@ returns-in-Gap c =
     let k : c.number-own.result.0 - 1 ≡ pred (number_on a.base a.j s) = omega arith in
     ap (λ (x : Found). among a.run.lo x) c.find.ensures
     ∙ parent_sought a.base a.j a.run s (c.number-own.result.0 - 1) c.parent-hash.result f k c.parent-hash.ensures.is in
-    let f = c.before.before in
-    ap (λ (x : Found). among f.args.run.lo x) (sym c.in-Gap.is) ∙ sought
+    ap (λ (x : Found). among c.args.run.lo x) (sym c.in-Gap.is) ∙ sought

@@ -31,4 +31,4 @@ returns c =
     let told : let a = c.args in
     not (is_less c.compare_at.result) ≡ row_not_above (rev_before a.base a.j a.s.now) (row_at (a.base + a.j * row_size) a.s.now).rev = let a = c.args in
     order_told a.base a.j _ _ a.s.now c.if-j-eq0.false refl c.number-x.ensures.is _ c.hash.ensures.is _ c.compare_at.ensures in
-    not_less c.compare_at.result c.in_default.keys2 ∙ told
+    not_less c.compare_at.result c.in_default.not-Less ∙ told
