@@ -7,8 +7,6 @@ use Prim.Native.Nat.{ℕ}
 use Prim.Native.String.{String}
 use native.Mathlib.Omega.{arith}
 use borrow.Author.Tests.{eq-eqb, ne_eqb}
-use denote.Enum.Declared.{tag_of}
-use types.Run.{OneOf}
 use lib.Dec.{eqb}
 use Rattle.rules.specs.Choice.{pick}
 use Rattle.json_text.specs.Members.{Json}
@@ -18,7 +16,6 @@ use Rattle.takes.specs.declared.Spot.TheVariants.{Absent, Once, Repeated}
 use Rattle.takes.specs.declared.Spots.{Spots}
 use Rattle.fields.specs.Fields.{name_at}
 use Rattle.fields.proofs.NameLaws.{is_name_lem}
-use Rattle.takes.specs.contracts.Spot.{the_type}
 use Rattle.takes.specs.Spots.{ValueAt, SpotIs, SpotsAre, seen_at, see_at, no_spots}
 
 -- ---- one value more
@@ -36,25 +33,10 @@ pub seen_more : (p : Spot) (k n v e : ℕ) → k ≡ n → p ≡ Repeated → Re
 seen_more p k n v e f g = rw (eq-eqb k n f, g)
 
 -- what a match tells past the arm of `Once`
-pub not_once : (p : Spot) → OneOf (0 ∷ 2 ∷ []) (tag_of the_type p) → (p ≡ Absent) ⊎ (p ≡ Repeated)
+pub not_once : (p : Spot) → ((v e : ℕ) → p ≡ Once v e → ⊥) → (p ≡ Absent) ⊎ (p ≡ Repeated)
 not_once Absent k = inl refl
-not_once (Once v e) (inl k) = absurd (omega arith)
-not_once (Once v e) (inr k) = absurd (omega arith)
+not_once (Once v e) k = absurd (k v e refl)
 not_once Repeated k = inr refl
-
--- and past that of `Absent`
-pub not_absent : (p : Spot) → OneOf (1 ∷ 2 ∷ []) (tag_of the_type p) → p ≡ Absent → ⊥
-not_absent Absent (inl k) e = absurd (omega arith)
-not_absent Absent (inr k) e = absurd (omega arith)
-not_absent (Once v x) k e = let z : ◌≡◌ {A = ℕ} 0 1 = cc in omega arith
-not_absent Repeated k e = let z : ◌≡◌ {A = ℕ} 0 1 = cc in omega arith
-
--- and past that of `Repeated`
-pub not_repeated : (p : Spot) → OneOf (0 ∷ 1 ∷ []) (tag_of the_type p) → p ≡ Repeated → ⊥
-not_repeated Repeated (inl k) e = absurd (omega arith)
-not_repeated Repeated (inr k) e = absurd (omega arith)
-not_repeated (Once v x) k e = let z : ◌≡◌ {A = ℕ} 0 1 = cc in omega arith
-not_repeated Absent k e = let z : ◌≡◌ {A = ℕ} 0 1 = cc in omega arith
 
 -- ---- one member more
 

@@ -1,0 +1,11 @@
+-- `walk_revisions` meets its contract. The loop's invariant: the members before i are read, and their spots kept. Assumes nothing.
+use Prim.Native.Nat.{◌-◌}
+use lib.ListN.{length}
+use Rattle.takes.proofs.ReadLaws.{InnerWalking}
+use Rattle.takes.proofs.walk_revisions.Given as goal
+
+abbrev pub invariant-loop-to : goal.invariant-loop-to
+invariant-loop-to l = InnerWalking 12 l.s l.at l.i l.path l.spots l.got
+
+abbrev pub decreases-loop-to : goal.decreases-loop-to
+decreases-loop-to l = length l.s - l.i
