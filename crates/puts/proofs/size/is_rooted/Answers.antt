@@ -1,5 +1,5 @@
 -- `size::is_rooted` meets its contract. Assumes nothing.
-use mathlib.Core.Path.{sym, ap, ◌∙◌}
+use mathlib.Core.Path.{◌≡◌, sym, ap, ◌∙◌}
 use Prim.Native.Nat.{ℕ}
 use native.Mathlib.Omega.{arith}
 use borrow.Author.Count.{below_more}
