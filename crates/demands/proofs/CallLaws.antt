@@ -35,7 +35,7 @@ use Rattle.store.proofs.StoredLaws.{stored_back}
 use Rattle.store.proofs.FitLaws.{replica_fits}
 use Rattle.images.proofs.Theorems.{loaded_is_replica}
 use Rattle.codec.specs.Codec.{load_bytes}
-use Rattle.refile.specs.Boundary.{result, CCall, lent_call, Lent, bad_replica, lent_house, bad_kind, bad_label, bad_flag, bad_hash, bad_no_parent, parent_house}
+use Rattle.refile.specs.Boundary.{result_number, CCall, lent_call, Lent, bad_replica, lent_house, bad_kind, bad_label, bad_flag, bad_hash, bad_no_parent, parent_house}
 use Rattle.refile.specs.Boundary.{edit_house, content_from, parent_from, short_answer, count_bytes, fresh_call, load_call, save_call, write_call, edit_call, pull_call}
 use Rattle.refile.specs.Decode.{value_in, decode, Told}
 use Rattle.refile.proofs.CallLaws.{first_both, lent_stands, sized, passes}
@@ -163,8 +163,8 @@ module _ {s : List ℕ} {w : Write} {r : ℕ} {left : List ℕ} (k : WriteCall s
             (d.1 ∙ ap (λ (o : Numbered × List ℕ). o.1) (write_is s w)),
       )
 
-  pub write_answers : IsStored s → r ≡ result (written_number (write (replica_of s) w).0)
-  write_answers i = write_told.calls.answers ∙ ap (λ (o : Numbered × List ℕ). result o.0) (passes (writing s w) (write_passes s w i) ∙ write_is s w)
+  pub write_answers : IsStored s → r ≡ result_number (written_number (write (replica_of s) w).0)
+  write_answers i = write_told.calls.answers ∙ ap (λ (o : Numbered × List ℕ). result_number o.0) (passes (writing s w) (write_passes s w i) ∙ write_is s w)
 
   pub write_from : C.IsAccepted r → IsStored s
   unfolding write_call

@@ -38,7 +38,7 @@ use Rattle.store.specs.Storage.{store_size, stored, replica_of, IsStored}
 use Rattle.store.proofs.StoredLaws.{size_laid}
 use Rattle.store.proofs.FitLaws.{stored_laid}
 use Rattle.codec.specs.Codec.{load_bytes}
-use Rattle.refile.specs.Boundary.{refused_from, result, result_of, CCall, Calls, Lent, lent_house, bad_hash, count_bytes, short_answer, fresh_call}
+use Rattle.refile.specs.Boundary.{refused_from, result_number, result_of, CCall, Calls, Lent, lent_house, bad_hash, count_bytes, short_answer, fresh_call}
 use Rattle.refile.specs.Boundary.{load_call, save_call, pull_call, changes_as, winner_call, leaves_call, path_call, missing_call, changes_call, sequence_call}
 use Rattle.refile.proofs.AnswerLaws.{room_answer}
 use Rattle.refile.proofs.CallLaws.{no_house, sized, does}
@@ -86,7 +86,7 @@ module _ (f : Exported) (a : Dens (any_lifetimes f.n) f.ps) (x : ℕ) (s : AtExi
   }
 
 -- the promise of a call that meets no house refusal
-done : {L : Type 0} (c : CCall L) → first_that c.house ≡ none → Calls c (result c.does.0) c.does.1
+done : {L : Type 0} (c : CCall L) → first_that c.house ≡ none → Calls c (result_number c.does.0) c.does.1
 done c e = does e refl refl refl
 
 -- ---- fresh
@@ -108,7 +108,7 @@ label_low (Live n) h = omega arith
 label_low Deleted h = omega arith
 
 pub write_exists : (s : List ℕ) (w : Write) → IsStored s → IsWrite w → Small w.id → Small w.path
-    → WriteCall s w (result (written_number (write (replica_of s) w).0)) (stored (write (replica_of s) w).1)
+    → WriteCall s w (result_number (written_number (write (replica_of s) w).0)) (stored (write (replica_of s) w).1)
 write_exists s w i g a b = record {
   call = called C.write
       (slice s, (slice w.id, (w.number.0, (slice w.path, (content_kind w.content, (content_label w.content, tt))))))
@@ -141,7 +141,7 @@ hash_small (some v) f = let h = f v refl in omega arith
 
 pub edit_exists : (s : List ℕ) (e : Edit) → IsStored s → IsEdit e → Small e.id → ((v : Revision) → e.parent ≡ some v → length v.hash ≡ hash_size)
     → ((v : Revision) → e.parent ≡ some v → v.number.0 < 4294967296)
-    → EditCall s e (result (edited_number (edit (replica_of s) e).0)) (stored (edit (replica_of s) e).1)
+    → EditCall s e (result_number (edited_number (edit (replica_of s) e).0)) (stored (edit (replica_of s) e).1)
 edit_exists s e i g a y l = let p = e.parent in record {
   call = called C.edit
       (slice s, (slice e.id, (slice e.hash, (content_kind e.content, (content_label e.content, (parent_named p, (parent_number p, (slice (parent_hash p), tt))))))))
@@ -174,7 +174,7 @@ edit_exists s e i g a y l = let p = e.parent in record {
 
 -- ---- save
 
-pub save_exists : (s out : List ℕ) → IsStored s → Small out → Called C.save (s, out) (result (answered_number (save (replica_of s) out).0)) (save (replica_of s) out).1
+pub save_exists : (s out : List ℕ) → IsStored s → Small out → Called C.save (s, out) (result_number (answered_number (save (replica_of s) out).0)) (save (replica_of s) out).1
 unfolding save_call
 save_exists s out i h =
     called C.save (slice s, (slice out, tt)) _ (slice s, (slice (save (replica_of s) out).1, tt)) (stored_room s i, (room out h, tt)) (lent s i)
@@ -191,14 +191,14 @@ module _ (s image : List ℕ) (e : length s ≡ store_size) (g : Bytes image) (h
   abbrev loading : Loaded × List ℕ
   loading = load_bytes s image (first_that (faults image))
 
-  load_stands : result (loaded_number loading.0) < refused_from → IsStored loading.1
+  load_stands : result_number (loaded_number loading.0) < refused_from → IsStored loading.1
   load_stands = go (first_that (faults image)) refl
     where
-      go : (o : Option (Fault × ℕ)) → first_that (faults image) ≡ o → result (loaded_number (load_bytes s image o).0) < refused_from → IsStored (load_bytes s image o).1
+      go : (o : Option (Fault × ℕ)) → first_that (faults image) ≡ o → result_number (loaded_number (load_bytes s image o).0) < refused_from → IsStored (load_bytes s image o).1
       go none q k = (holding (replica_in image) _ (loaded_is_replica image g q).0 refl).is
       go (some f) q k = absurd (no_fault f.0 (low_accepted (fault_number f.0) f.1 k))
 
-  pub load_exists : LoadCall s image (result (loaded_number loading.0)) loading.1
+  pub load_exists : LoadCall s image (result_number (loaded_number loading.0)) loading.1
   unfolding load_call
   load_exists = record {
     call = called C.load (slice s, (slice image, tt)) _ (slice loading.1, (slice image, tt)) (room s (omega arith), (room image h, tt)) tt
@@ -228,27 +228,27 @@ module _ (t s : List ℕ) (q : Seq) (answer : List ℕ) (i : IsStored t) (j : Is
 -- ---- reads
 
 module _ (s : List ℕ) (j : Id) (out : List ℕ) (i : IsStored s) (a : Small j) (h : Small out) where
-  pub winner_exists : Called C.winner (s, j, out) (result (answered_number (read_winner (replica_of s) j out).0)) (read_winner (replica_of s) j out).1
+  pub winner_exists : Called C.winner (s, j, out) (result_number (answered_number (read_winner (replica_of s) j out).0)) (read_winner (replica_of s) j out).1
   unfolding winner_call
   winner_exists =
       called C.winner (slice s, (slice j, (slice out, tt))) _ (slice s, (slice j, (slice (read_winner (replica_of s) j out).1, tt)))
       (stored_room s i, (room j a, (room out h, tt))) (lent s i) (done (winner_call s j out) (replica_past s [] i no_house))
 
-  pub leaves_exists : Called C.leaves (s, j, out) (result (answered_number (read_leaves (replica_of s) j out).0)) (read_leaves (replica_of s) j out).1
+  pub leaves_exists : Called C.leaves (s, j, out) (result_number (answered_number (read_leaves (replica_of s) j out).0)) (read_leaves (replica_of s) j out).1
   unfolding leaves_call
   leaves_exists =
       called C.leaves (slice s, (slice j, (slice out, tt))) _ (slice s, (slice j, (slice (read_leaves (replica_of s) j out).1, tt)))
       (stored_room s i, (room j a, (room out h, tt))) (lent s i) (done (leaves_call s j out) (replica_past s [] i no_house))
 
   pub missing_exists : (asked : List ℕ) → Small asked
-      → Called C.missing (s, j, asked, out) (result (answered_number (read_missing (replica_of s) j asked out).0)) (read_missing (replica_of s) j asked out).1
+      → Called C.missing (s, j, asked, out) (result_number (answered_number (read_missing (replica_of s) j asked out).0)) (read_missing (replica_of s) j asked out).1
   unfolding missing_call
   missing_exists asked g =
       called C.missing (slice s, (slice j, (slice asked, (slice out, tt)))) _ (slice s, (slice j, (slice asked, (slice (read_missing (replica_of s) j asked out).1, tt))))
       (stored_room s i, (room j a, (room asked g, (room out h, tt)))) (lent s i) (done (missing_call s j asked out) (replica_past s [] i no_house))
 
   pub path_exists : (v : Revision) → length v.hash ≡ hash_size → v.number.0 < 4294967296
-      → Called C.path (s, j, v.number.0, v.hash, out) (result (answered_number (read_path (replica_of s) j v out).0)) (read_path (replica_of s) j v out).1
+      → Called C.path (s, j, v.number.0, v.hash, out) (result_number (answered_number (read_path (replica_of s) j v out).0)) (read_path (replica_of s) j v out).1
   unfolding path_call first_that bad_hash
   path_exists v z l =
       called C.path (slice s, (slice j, (v.number.0, (slice v.hash, (slice out, tt))))) _
@@ -265,7 +265,7 @@ module _ (s : List ℕ) (q : Seq) (out answer : List ℕ) (i : IsStored s) (h : 
   abbrev changing : Numbered × (List ℕ × List ℕ)
   changing = changes_as out answer (read_changes (replica_of s) q out)
 
-  pub changes_exists : Called C.changes (s, q, out, answer) (result changing.0) (changing.1.0, changing.1.1)
+  pub changes_exists : Called C.changes (s, q, out, answer) (result_number changing.0) (changing.1.0, changing.1.1)
   unfolding changes_call
   changes_exists =
       called C.changes (slice s, (q.0, (slice out, (slice answer, tt)))) _ (slice s, (q.0, (slice changing.1.0, (slice changing.1.1, tt))))

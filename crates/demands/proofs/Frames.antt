@@ -14,7 +14,7 @@ use Rattle.rules.specs.Write.{Write}
 use Rattle.union.specs.Said.{SameAnswers, AlikeAt}
 use Rattle.union.proofs.Demand3 as union
 use Rattle.store.specs.Storage.{replica_of, IsStored}
-use Rattle.refile.specs.Boundary.{result}
+use Rattle.refile.specs.Boundary.{result_number}
 use Rattle.demands.specs.Calls.{IsAccepted, WriteCall, EditCall}
 use Rattle.demands.specs.Runs.{Pulls}
 use Rattle.demands.specs.Alike.{AnswerAlike}
@@ -52,6 +52,6 @@ pub write_alike : {s t : List ℕ} {w : Write} {x y : ℕ} {m n : List ℕ} → 
     → AlikeAt w.id (replica_of s) (replica_of t) → (x ≡ y) × AlikeAt w.id (replica_of m) (replica_of n)
 write_alike {s} {t} {w} k l i h a =
     let e = union.write_alike w (replica_of s) (replica_of t) a in (
-      write_answers k i ∙ (ap (λ (o : Written). result (written_number o)) e.0 ∙ sym (write_answers l h)),
+      write_answers k i ∙ (ap (λ (o : Written). result_number (written_number o)) e.0 ∙ sym (write_answers l h)),
       rw ((write_does k i).1.means, (write_does l h).1.means) e.1,
     )

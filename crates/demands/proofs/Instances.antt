@@ -44,7 +44,7 @@ use Rattle.store.proofs.StoredLaws.{size_laid}
 use Rattle.store.proofs.FitLaws.{stored_laid}
 use Rattle.pulls.specs.BothWays as ways
 use Rattle.pulls.proofs.Instances.{kept, lost, passed}
-use Rattle.refile.specs.Boundary.{refused_from, result, numbers, change_bytes, changes_as}
+use Rattle.refile.specs.Boundary.{refused_from, result_number, numbers, change_bytes, changes_as}
 use Rattle.refile.specs.Decode.{refusal_in, value_in}
 use Rattle.demands.specs.Calls as C
 use Rattle.demands.specs.Calls.{IsAccepted, Called, LoadCall, EditCall}
@@ -353,8 +353,8 @@ comes s r i e c =
       _,
       changes_exists s all_from lent_out lent_out i (omega arith) (omega arith) (omega arith),
       record {
-        accepted = ap (λ (o : Numbered × (List ℕ × List ℕ)). refusal_in (result o.0)) d;
-        more = ap (λ (o : Numbered × (List ℕ × List ℕ)). value_in (result o.0)) d;
+        accepted = ap (λ (o : Numbered × (List ℕ × List ℕ)). refusal_in (result_number o.0)) d;
+        more = ap (λ (o : Numbered × (List ℕ × List ℕ)). value_in (result_number o.0)) d;
         id = ap (λ (o : Numbered × (List ℕ × List ℕ)). o.1.0) d;
         size = ap (λ (o : Numbered × (List ℕ × List ℕ)). value (part 0 4 o.1.1)) d;
       },
@@ -378,7 +378,7 @@ new = record { id = note; hash = hash 0x10; content = Live 1; parent = none }
 new_is : IsEdit new
 new_is = record { id = (omega arith, (omega arith, tt)); hash = (omega arith, bytes_zeros 15); size = refl; content = omega arith }
 
-new_accepted : IsAccepted (result (edited_number (edit fresh new).0))
+new_accepted : IsAccepted (result_number (edited_number (edit fresh new).0))
 unfolding edit edit_refusals parent_rule last_number already_known room_refusals documents_full revisions_full sequence_spent
     adds count_new count_parents is_new is_new_parent how_many gives along hashes pieces as_write new_number parent_of
     deleted_winner is_leaf winner leaves highest document_of tree_of find any first_that bad_id revisions_held order_bytes
@@ -388,7 +388,7 @@ new_accepted = refl
 pub new_left : List ℕ
 new_left = stored (edit (replica_of (stored fresh)) new).1
 
-new_made : EditCall (stored fresh) new (result (edited_number (edit (replica_of (stored fresh)) new).0)) new_left
+new_made : EditCall (stored fresh) new (result_number (edited_number (edit (replica_of (stored fresh)) new).0)) new_left
 unfolding new_left
 new_made = edit_exists (stored fresh) new fresh_stored new_is (omega arith) (λ v e. absurd (none≢some e)) (λ v e. absurd (none≢some e))
 

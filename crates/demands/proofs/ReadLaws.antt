@@ -12,7 +12,7 @@ use Rattle.rules.specs.Replica.{Id}
 use Rattle.union.specs.Said.{SameAnswers}
 use Rattle.store.specs.Storage.{replica_of, IsStored}
 use Rattle.reads.proofs.AnswerLaws.{first_past}
-use Rattle.refile.specs.Boundary.{result, CCall, outcome, Calls, read_call, lent_house, bad_hash, winner_call, leaves_call, path_call, missing_call, sequence_call}
+use Rattle.refile.specs.Boundary.{result_number, CCall, outcome, Calls, read_call, lent_house, bad_hash, winner_call, leaves_call, path_call, missing_call, sequence_call}
 use Rattle.refile.specs.Decode.{value_in, decode}
 use Rattle.refile.proofs.FairLaws.{told_does}
 use Rattle.refile.proofs.Keeps.{replica_passes, replica_past}
@@ -44,7 +44,7 @@ sequence_does {s} k h = ap (λ (m : Numbered). m.value) (told_does (sequence_tel
 -- two calls of one outcome
 same_calls : {c d : CCall (List ℕ)} {x y : ℕ} {m n : List ℕ} → Calls c x m → Calls d y n → outcome c ≡ outcome d → (x ≡ y) × (m ≡ n)
 same_calls p q e = (
-  p.answers ∙ (ap (λ (o : Numbered × List ℕ). result o.0) e ∙ sym q.answers),
+  p.answers ∙ (ap (λ (o : Numbered × List ℕ). result_number o.0) e ∙ sym q.answers),
   p.left ∙ (ap (λ (o : Numbered × List ℕ). o.1) e ∙ sym q.left),
 )
 

@@ -15,7 +15,7 @@ use Rattle.rules.proofs.OutcomeLaws.{fixed}
 use Rattle.store.specs.Storage.{store_size, IsStored}
 use Rattle.codec.specs.Codec.{Tells}
 use Rattle.reads.proofs.AnswerLaws.{first_past, first_some}
-use Rattle.refile.specs.Boundary.{refused_from, result, CCall, outcome, Calls, Keeps, House, first_house, lent_call, Lent, Says, bad_replica, bad_start, lent_house}
+use Rattle.refile.specs.Boundary.{refused_from, result_number, CCall, outcome, Calls, Keeps, House, first_house, lent_call, Lent, Says, bad_replica, bad_start, lent_house}
 
 -- ---- the first house refusal that holds
 
@@ -66,24 +66,24 @@ module _ {L : Type 0} (c : CCall L) where
 
 module _ {L : Type 0} {c : CCall L} {r : ℕ} {buffer : L} where
   -- a call from its outcome
-  pub made : {n : Numbered} {left : L} → outcome c ≡ (n, left) → r ≡ result n → buffer ≡ left → Calls c r buffer
-  made e f g = record { answers = f ∙ sym (ap (λ p. result p.0) e); left = g ∙ sym (ap (λ p. p.1) e) }
+  pub made : {n : Numbered} {left : L} → outcome c ≡ (n, left) → r ≡ result_number n → buffer ≡ left → Calls c r buffer
+  made e f g = record { answers = f ∙ sym (ap (λ p. result_number p.0) e); left = g ∙ sym (ap (λ p. p.1) e) }
 
   -- that its house refuses, and that does what it is there for
-  pub refuses : (n : ℕ) → first_that c.house ≡ first_house n → (n ≡ 0 → ⊥) → r ≡ result (refused n) → buffer ≡ c.lent → Calls c r buffer
+  pub refuses : (n : ℕ) → first_that c.house ≡ first_house n → (n ≡ 0 → ⊥) → r ≡ result_number (refused n) → buffer ≡ c.lent → Calls c r buffer
   refuses zero e ne f g = absurd (ne refl)
   refuses (suc n) e ne f g = made (stops c (suc n) e) f g
 
-  pub does : first_that c.house ≡ none → {n : Numbered} {left : L} → c.does ≡ (n, left) → r ≡ result n → buffer ≡ left → Calls c r buffer
+  pub does : first_that c.house ≡ none → {n : Numbered} {left : L} → c.does ≡ (n, left) → r ≡ result_number n → buffer ≡ left → Calls c r buffer
   does e d f g = made (passes c e ∙ d) f g
 
 -- a refusal's result is at or above 2^63
-refused_high : (n r : ℕ) → (n ≡ 0 → ⊥) → r ≡ result (refused n) → r < refused_from → ⊥
+refused_high : (n r : ℕ) → (n ≡ 0 → ⊥) → r ≡ result_number (refused n) → r < refused_from → ⊥
 refused_high zero r ne e h = ne refl
 refused_high (suc n) r ne e h = omega arith
 
 -- so a refused call has no replica to leave
-pub keeps : {L : Type 0} {c : CCall L} (n : ℕ) {r : ℕ} {buffer : L} {replica : List ℕ} → (n ≡ 0 → ⊥) → r ≡ result (refused n) → Calls c r buffer → Keeps c r buffer replica
+pub keeps : {L : Type 0} {c : CCall L} (n : ℕ) {r : ℕ} {buffer : L} {replica : List ℕ} → (n ≡ 0 → ⊥) → r ≡ result_number (refused n) → Calls c r buffer → Keeps c r buffer replica
 keeps n {r} ne e k = record { calls = k; stands = λ h. absurd (refused_high n r ne e h) }
 
 -- and one that accepts leaves one
@@ -138,15 +138,15 @@ module _ (s : List ℕ) where
 -- a call that is lent one, and has the house refusals us besides
 module _ {L : Type 0} (s : List ℕ) (us : List (Bool × ℕ)) {lent : L} {o : Numbered × L} {r : ℕ} where
   -- refused by 100 or 106
-  pub lent_refuses : (n : ℕ) → House (lent_house s) n → (n ≡ 0 → ⊥) → r ≡ result (refused n) → Calls (lent_call s us lent o) r lent
+  pub lent_refuses : (n : ℕ) → House (lent_house s) n → (n ≡ 0 → ⊥) → r ≡ result_number (refused n) → Calls (lent_call s us lent o) r lent
   lent_refuses n h ne e = refuses n (stop (lent_house s) us n h ne) ne e refl
 
   -- by another
-  pub more_refuses : first_that (lent_house s) ≡ none → (n : ℕ) → House us n → (n ≡ 0 → ⊥) → r ≡ result (refused n) → Calls (lent_call s us lent o) r lent
+  pub more_refuses : first_that (lent_house s) ≡ none → (n : ℕ) → House us n → (n ≡ 0 → ⊥) → r ≡ result_number (refused n) → Calls (lent_call s us lent o) r lent
   more_refuses p n h ne e = refuses n (first_past (lent_house s) us p ∙ h.first) ne e refl
 
   -- and past all
-  pub lent_does : {buffer : L} → first_that (lent_house s) ≡ none → first_that us ≡ none → {n : Numbered} {left : L} → o ≡ (n, left) → r ≡ result n → buffer ≡ left
+  pub lent_does : {buffer : L} → first_that (lent_house s) ≡ none → first_that us ≡ none → {n : Numbered} {left : L} → o ≡ (n, left) → r ≡ result_number n → buffer ≡ left
       → Calls (lent_call s us lent o) r buffer
   lent_does p q d e f = does (first_past (lent_house s) us p ∙ q) d e f
 

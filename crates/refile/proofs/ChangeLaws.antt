@@ -36,7 +36,7 @@ use Rattle.edits.specs.Edit.{edit_of, EditDone}
 use Rattle.report.proofs.FaultLaws.{place_most}
 use Rattle.codec.specs.Codec.{load_bytes, Loads}
 use Rattle.pulls.specs.Pulls.{Pulled}
-use Rattle.refile.specs.Boundary.{refused_from, result_of, result, SmallPlace, Keeps, House, lent_house, bad_kind, bad_label, bad_flag, bad_hash}
+use Rattle.refile.specs.Boundary.{refused_from, result_of, result_number, SmallPlace, Keeps, House, lent_house, bad_kind, bad_label, bad_flag, bad_hash}
 use Rattle.refile.specs.Boundary.{bad_no_parent, parent_house, edit_house, short_answer, content_from, parent_from, count_bytes, load_call, write_call, edit_call, pull_call}
 use Rattle.refile.proofs.AnswerLaws.{short_answer_lem, room_answer}
 use Rattle.refile.proofs.CallLaws.{sized, none_first, clear, not-false, past, stop, does, keeps, accepts, more_refuses, lent_does}
@@ -155,34 +155,34 @@ pub parent_is_none : (f : ℕ) (v w : Revision) → (f ≡ 1 → ⊥) → parent
 parent_is_none f v w ne = rw (ne_eqb f 1 ne)
 
 module _ (s i hash : List ℕ) (k l f n : ℕ) (parent : List ℕ) (fine : first_that (lent_house s) ≡ none) where
-  pub edit_refused : (m r : ℕ) → House (edit_house hash k l f n parent) m → (m ≡ 0 → ⊥) → r ≡ result (refused m) → Keeps (edit_call s i hash k l f n parent) r s s
+  pub edit_refused : (m r : ℕ) → House (edit_house hash k l f n parent) m → (m ≡ 0 → ⊥) → r ≡ result_number (refused m) → Keeps (edit_call s i hash k l f n parent) r s s
   unfolding edit_call
   edit_refused m r h ne e = keeps m ne e (more_refuses s _ fine m h ne e)
 
   pub edit_done : (m : ℕ) (h : List ℕ) (c : Content) (v : Revision) (a : Edited) (left : List ℕ) (r : ℕ) → House (edit_house hash k l f n parent) m → m ≡ 0
       → IsHash hash 0 h → c ≡ content_from k l → parent_from f v ≡ parent_from f (revision n parent)
-      → EditDone s (edit_of i h c (eqb f 1) v) a left → r ≡ result (edited_number a) → Keeps (edit_call s i hash k l f n parent) r left left
+      → EditDone s (edit_of i h c (eqb f 1) v) a left → r ≡ result_number (edited_number a) → Keeps (edit_call s i hash k l f n parent) r left left
   unfolding edit_call part
   edit_done m h c v a left r house z j e p d q =
       let same : h ≡ hash = j.is ∙ take_all 16 hash (let x = edit_hash_size hash k l f n parent m house z in omega arith) in
       let whole : edit_of i h c (eqb f 1) v ≡ record { id = i; hash = hash; content = content_from k l; parent = parent_from f (revision n parent) }
       = λ x. record { id = i; hash = same x; content = e x; parent = p x } in
       let w : EditDone s (record { id = i; hash = hash; content = content_from k l; parent = parent_from f (revision n parent) }) a left = rw whole at d in
-      accepts (lent_does s _ fine (none_first _ m house z) refl (q ∙ ap (λ (x : Edited). result (edited_number x)) w.answer) w.left) w.is
+      accepts (lent_does s _ fine (none_first _ m house z) refl (q ∙ ap (λ (x : Edited). result_number (edited_number x)) w.answer) w.left) w.is
 
 -- ---- the path write
 
 module _ (s i : List ℕ) (n : ℕ) (p : List ℕ) (k l : ℕ) (fine : first_that (lent_house s) ≡ none) where
-  pub write_refused : (m r : ℕ) → House (bad_kind k ∷ bad_label k l ∷ []) m → (m ≡ 0 → ⊥) → r ≡ result (refused m) → Keeps (write_call s i n p k l) r s s
+  pub write_refused : (m r : ℕ) → House (bad_kind k ∷ bad_label k l ∷ []) m → (m ≡ 0 → ⊥) → r ≡ result_number (refused m) → Keeps (write_call s i n p k l) r s s
   unfolding write_call
   write_refused m r h ne e = keeps m ne e (more_refuses s _ fine m h ne e)
 
   pub write_done : (m : ℕ) (c : Content) (a : Written) (left : List ℕ) (r : ℕ) → House (bad_kind k ∷ bad_label k l ∷ []) m → m ≡ 0 → c ≡ content_from k l
-      → Wrote s (write_of i (record { 0 = n }) p c) a left → r ≡ result (written_number a) → Keeps (write_call s i n p k l) r left left
+      → Wrote s (write_of i (record { 0 = n }) p c) a left → r ≡ result_number (written_number a) → Keeps (write_call s i n p k l) r left left
   unfolding write_call
   write_done m c a left r house z e d q =
       let w : Wrote s (write_of i (record { 0 = n }) p (content_from k l)) a left = rw e at d in
-      accepts (lent_does s _ fine (none_first _ m house z) refl (q ∙ ap (λ (x : Written). result (written_number x)) w.answer) w.left) w.is
+      accepts (lent_does s _ fine (none_first _ m house z) refl (q ∙ ap (λ (x : Written). result_number (written_number x)) w.answer) w.left) w.is
 
 -- ---- fresh and load
 
@@ -198,7 +198,7 @@ loaded_small before image answer after l = rw l.does.answers (go (first_that (fa
     go (some f) e = let m = place_most image f e in omega arith
 
 -- a result below 2^63 is not that of a fault
-loaded_accepted : (a : Loaded) (r : ℕ) → r ≡ result (loaded_number a) → r < refused_from → a ≡ loaded.Accepted
+loaded_accepted : (a : Loaded) (r : ℕ) → r ≡ result_number (loaded_number a) → r < refused_from → a ≡ loaded.Accepted
 loaded_accepted loaded.Accepted r e h = refl
 loaded_accepted (loaded.Refused f p) r e h = absurd (high (fault_number f) (fault_small f).0 e)
   where
@@ -206,11 +206,11 @@ loaded_accepted (loaded.Refused f p) r e h = absurd (high (fault_number f) (faul
     high zero k q = omega arith
     high (suc n) k q = omega arith
 
-pub loads_on : (s image : List ℕ) (answer : Loaded) (left : List ℕ) (r : ℕ) → length s ≡ store_size → Loads s image answer left → r ≡ result (loaded_number answer)
+pub loads_on : (s image : List ℕ) (answer : Loaded) (left : List ℕ) (r : ℕ) → length s ≡ store_size → Loads s image answer left → r ≡ result_number (loaded_number answer)
     → Keeps (load_call s image) r left left
 unfolding load_call
 loads_on s image answer left r size l e = record {
-  calls = does (sized s size) refl (e ∙ ap (λ (a : Loaded). result (loaded_number a)) l.does.answers) l.does.left;
+  calls = does (sized s size) refl (e ∙ ap (λ (a : Loaded). result_number (loaded_number a)) l.does.answers) l.does.left;
   stands = λ h. l.accepted (loaded_accepted answer r e h);
 }
 
@@ -220,7 +220,7 @@ module _ (t s answer : List ℕ) (q : ℕ) (tfine : first_that (lent_house t) �
   abbrev pulled : Counts × Replica
   pulled = pull (record { 0 = q }) (replica_of s) (replica_of t)
 
-  pub pull_short : (r : ℕ) → length answer < 12 → r ≡ result (refused 14) → Keeps (pull_call t s q answer) r (t, answer) t
+  pub pull_short : (r : ℕ) → length answer < 12 → r ≡ result_number (refused 14) → Keeps (pull_call t s q answer) r (t, answer) t
   unfolding pull_call count_bytes short_answer
   pull_short r h e = keeps 14 (λ z. omega arith) e (lent_does t _ tfine sfine (short_answer_lem _ _ _ answer h) e refl)
 

@@ -40,7 +40,7 @@ use Rattle.report.proofs.FaultLaws.{place_most}
 use Rattle.store.specs.Storage.{stored, replica_of, IsStored}
 use Rattle.codec.specs.Codec.{load_bytes}
 use Rattle.reads.proofs.AnswerLaws.{first_past, first_some}
-use Rattle.refile.specs.Boundary.{refused_from, result, result_of, CCall, outcome, Calls, read_call, answering, Lent, bad_replica, bad_start, lent_house}
+use Rattle.refile.specs.Boundary.{refused_from, result_number, result_of, CCall, outcome, Calls, read_call, answering, Lent, bad_replica, bad_start, lent_house}
 use Rattle.refile.specs.Boundary.{bad_kind, bad_label, bad_flag, bad_hash, bad_no_parent, parent_house, edit_house, content_from, short_answer, changes_as, change_bytes, count_bytes}
 use Rattle.refile.specs.Boundary.{held_bytes, fresh_call, load_call, write_call, edit_call, path_call, changes_call, pull_call, sequence_call, counts_call, report_call}
 use Rattle.refile.specs.Decode.{refusal_in, value_in, decode, RangeOf, InRange, Told}
@@ -56,7 +56,7 @@ decode_of (suc n) v h =
     let q : value_in (refused_from + suc n * 4294967296 + v) ≡ v = rw t (omega arith) in
     λ i. record { refusal = p i; value = q i }
 
-pub decode_number : (n : Numbered) → InRange n → decode (result n) ≡ n
+pub decode_number : (n : Numbered) → InRange n → decode (result_number n) ≡ n
 decode_number n h = decode_of n.refusal n.value h
 
 -- ---- the general law

@@ -23,7 +23,7 @@ use Rattle.store.specs.Storage.{stored, replica_of, IsStored}
 use Rattle.takes.specs.Took.{Took}
 use Rattle.reads.proofs.AnswerLaws.{first_some}
 use Rattle.puts.proofs.SizeLaws.{lines_most}
-use Rattle.refile.specs.Boundary.{refused_from, result, first_house, Calls, Keeps, House, Lent, lent_house, TakesCall, take_in_call, put_out_call, put_out_size_call}
+use Rattle.refile.specs.Boundary.{refused_from, result_number, first_house, Calls, Keeps, House, Lent, lent_house, TakesCall, take_in_call, put_out_call, put_out_size_call}
 use Rattle.refile.proofs.CallLaws.{none_first, no_house, first_both, stops, lent_stands, keeps, accepts, keeps_one, lent_refuses, lent_does}
 use Rattle.refile.proofs.FairLaws.{Fair, FairCall, lent_numbers, rules_fair, accepted_fair, write_as}
 use Rattle.refile.proofs.ReadCallLaws.{Reads}
@@ -35,7 +35,7 @@ not_both ts zero e ne z = ne refl
 not_both ts (suc n) e ne z = let q : ◌≡◌ {A = Option ℕ} (some (suc n)) none = sym e ∙ z in absurd (let y : ◌≡◌ {A = ℕ} 0 1 = cc in omega arith)
 
 module _ (s line : List ℕ) {n r : ℕ} (h : House (lent_house s) n) where
-  pub take_refuses : (n ≡ 0 → ⊥) → r ≡ result (refused n) → TakesCall s line r s
+  pub take_refuses : (n ≡ 0 → ⊥) → r ≡ result_number (refused n) → TakesCall s line r s
   unfolding take_in_call
   take_refuses ne e = record {
     members = none;
@@ -43,12 +43,12 @@ module _ (s line : List ℕ) {n r : ℕ} (h : House (lent_house s) n) where
     keeps = keeps n ne e (lent_refuses s [] n h ne e);
   }
 
-  pub take_done : n ≡ 0 → {a : Written} {left : List ℕ} → Took s line a left → r ≡ result (written_number a) → TakesCall s line r left
+  pub take_done : n ≡ 0 → {a : Written} {left : List ℕ} → Took s line a left → r ≡ result_number (written_number a) → TakesCall s line r left
   unfolding take_in_call
   take_done z t e = record {
     members = t.members;
     holds = λ f. t.holds;
-    keeps = accepts (lent_does s [] (none_first _ n h z) no_house refl (e ∙ ap (λ (x : Written). result (written_number x)) t.answer) t.left) t.is;
+    keeps = accepts (lent_does s [] (none_first _ n h z) no_house refl (e ∙ ap (λ (x : Written). result_number (written_number x)) t.answer) t.left) t.is;
   }
 
 -- a house refusal is the same whatever the line holds, and past them the line holds one thing
@@ -63,7 +63,7 @@ take_one {s} {line} {x} {y} {a} {b} p q = go (first_that (lent_house s)) refl
     go (some n) e =
         let u = stops (take_in_call s p.members) n (first_some (lent_house s) [] n e) in
         let v = stops (take_in_call s q.members) n (first_some (lent_house s) [] n e) in (
-          p.keeps.calls.answers ∙ (ap (λ o. result o.0) (u ∙ sym v) ∙ sym q.keeps.calls.answers),
+          p.keeps.calls.answers ∙ (ap (λ o. result_number o.0) (u ∙ sym v) ∙ sym q.keeps.calls.answers),
           p.keeps.calls.left ∙ (ap (λ o. o.1) (u ∙ sym v) ∙ sym q.keeps.calls.left),
         )
 
@@ -91,13 +91,13 @@ unfolding put_out_call
 put_out_reads s out i = record { is = refl }
 
 module _ (s : List ℕ) (i : Id) {n r : ℕ} (h : House (lent_house s) n) where
-  pub size_refuses : (n ≡ 0 → ⊥) → r ≡ result (refused n) → Calls (put_out_size_call s i) r tt
+  pub size_refuses : (n ≡ 0 → ⊥) → r ≡ result_number (refused n) → Calls (put_out_size_call s i) r tt
   unfolding put_out_size_call
   size_refuses ne e = lent_refuses s [] n h ne e
 
-  pub size_answers : n ≡ 0 → {a : Answered} → a ≡ put_out_size (replica_of s) i → r ≡ result (answered_number a) → Calls (put_out_size_call s i) r tt
+  pub size_answers : n ≡ 0 → {a : Answered} → a ≡ put_out_size (replica_of s) i → r ≡ result_number (answered_number a) → Calls (put_out_size_call s i) r tt
   unfolding put_out_size_call
-  size_answers z d e = lent_does s [] (none_first _ n h z) no_house refl (e ∙ ap (λ (x : Answered). result (answered_number x)) d) refl
+  size_answers z d e = lent_does s [] (none_first _ n h z) no_house refl (e ∙ ap (λ (x : Answered). result_number (answered_number x)) d) refl
 
 pub size_fair : (s : List ℕ) (i : Id) → Lent s → FairCall (put_out_size_call s i)
 unfolding put_out_size_call put_out_size

@@ -16,7 +16,7 @@ use Rattle.rules.specs.declared.Refusal.TheVariants.{NotJson, BadMember, OtherRe
 use Rattle.rules.specs.Answer.{Numbered, refused, loaded_number}
 use Rattle.rules.specs.Refusal.{refusal_number, fault_number}
 use Rattle.rules.proofs.ChoiceLaws.{neither}
-use Rattle.refile.specs.Boundary.{refused_from, result, RefusalOf, SmallPlace}
+use Rattle.refile.specs.Boundary.{refused_from, result_number, RefusalOf, SmallPlace}
 
 -- ---- no refusal has the number 0, nor one above the house's
 
@@ -28,7 +28,7 @@ small_if n e = let t = neither (ltb n 1) (ltb 106 n) e in (ltb-false n 1 t.0, lt
 
 pub refusal_small : (x : Refusal) → Small (refusal_number x)
 refusal_small x =
-    small_if (refusal_number x) (elim x [
+    small_if (refusal_number x) (elim x as (λ (k : Refusal). (ltb (refusal_number k) 1 || ltb 106 (refusal_number k)) ≡ false) [
       | BadId ↦ refl
       | BadPath ↦ refl
       | LowNumber ↦ refl
@@ -52,7 +52,7 @@ refusal_small x =
 
 pub fault_small : (f : Fault) → Small (fault_number f)
 fault_small f =
-    small_if (fault_number f) (elim f [ TooShort ↦ refl | BadEdition ↦ refl | BadHead ↦ refl | BadContents ↦ refl | BadSequence ↦ refl | BadRow ↦ refl | BadParent ↦ refl ])
+    small_if (fault_number f) (elim f as (λ (k : Fault). (ltb (fault_number k) 1 || ltb 106 (fault_number k)) ≡ false) [ TooShort ↦ refl | BadEdition ↦ refl | BadHead ↦ refl | BadContents ↦ refl | BadSequence ↦ refl | BadRow ↦ refl | BadParent ↦ refl ])
 
 -- the number of a refusal that is known
 pub numbered : {r x : Refusal} → r ≡ x → 1 ≤ refusal_number x → refusal_number x ≤ 43 → RefusalOf r (refusal_number x)
@@ -69,22 +69,22 @@ no_fault f = none_at_zero (fault_number f) (fault_small f)
 
 -- ---- the result of a refusal
 
-result_place : (n p : ℕ) → 1 ≤ n → refused_from + n * 4294967296 + p ≡ result (record { refusal = n; value = p })
+result_place : (n p : ℕ) → 1 ≤ n → refused_from + n * 4294967296 + p ≡ result_number (record { refusal = n; value = p })
 result_place zero p h = absurd (omega arith)
 result_place (suc n) p h = refl
 
-pub result_refused : (n : ℕ) → 1 ≤ n → refused_from + n * 4294967296 ≡ result (refused n)
+pub result_refused : (n : ℕ) → 1 ≤ n → refused_from + n * 4294967296 ≡ result_number (refused n)
 result_refused n h = (let e : refused_from + n * 4294967296 ≡ refused_from + n * 4294967296 + 0 = omega arith in e) ∙ result_place n 0 h
 
 -- the refused case of any answer: its number is that of the refusal
 pub refused_case : {A : Type 0} (number : A → Numbered) (a b : A) (n : Refusal) (k r : ℕ) → a ≡ b → number b ≡ refused (refusal_number n)
-    → k ≡ refusal_number n → r ≡ result (refused k) → r ≡ result (number a)
-refused_case number a b n k r e f p q = q ∙ (ap (λ (m : ℕ). result (refused m)) p ∙ (ap (λ (m : Numbered). result m) (sym f) ∙ ap (λ x. result (number x)) (sym e)))
+    → k ≡ refusal_number n → r ≡ result_number (refused k) → r ≡ result_number (number a)
+refused_case number a b n k r e f p q = q ∙ (ap (λ (m : ℕ). result_number (refused m)) p ∙ (ap (λ (m : Numbered). result_number m) (sym f) ∙ ap (λ x. result_number (number x)) (sym e)))
 
 pub place_small : (a : Loaded) (f : Fault) (p : ℕ) → a ≡ loaded.Refused f p → SmallPlace a → p < 4294967296
 place_small a f p e h = rw e at h
 
-pub loaded_case : (a : Loaded) (f : Fault) (k p r : ℕ) → a ≡ loaded.Refused f p → k ≡ fault_number f → 20 ≤ k → r ≡ result (refused k) → r + p ≡ result (loaded_number a)
+pub loaded_case : (a : Loaded) (f : Fault) (k p r : ℕ) → a ≡ loaded.Refused f p → k ≡ fault_number f → 20 ≤ k → r ≡ result_number (refused k) → r + p ≡ result_number (loaded_number a)
 loaded_case a f k p r e g h q =
     let m : r ≡ refused_from + k * 4294967296 = q ∙ sym (result_refused k (omega arith)) in
     let s : r + p ≡ refused_from + k * 4294967296 + p = omega arith in

@@ -34,15 +34,15 @@ use Rattle.store.specs.Documents.{documents_of}
 use Rattle.store.specs.Storage.{replica_of}
 use Rattle.reads.specs.Next.{IsNext}
 use Rattle.reads.proofs.AnswerLaws.{first_past}
-use Rattle.refile.specs.Boundary.{result, CCall, outcome, Calls, House, read_call, lent_house, save_call, winner_call, leaves_call, missing_call}
+use Rattle.refile.specs.Boundary.{result_number, CCall, outcome, Calls, House, read_call, lent_house, save_call, winner_call, leaves_call, missing_call}
 use Rattle.refile.specs.Boundary.{bad_hash, short_answer, numbers, flag_number, change_bytes, changes_as, held_bytes, path_call, changes_call, counts_call, report_call}
 use Rattle.refile.proofs.CallLaws.{none_first, no_house, passes, made, does, lent_refuses, more_refuses, lent_does}
 use Rattle.refile.proofs.AnswerLaws.{short_answer_lem, room_answer}
 
 -- past the house refusals a read answers and leaves what it reads
 pub reads_on : (s : List ℕ) (us : List (Bool × ℕ)) {out : List ℕ} (o : Answered × List ℕ) {a : Answered} {left : List ℕ} {r : ℕ}
-    → first_that (lent_house s) ≡ none → first_that us ≡ none → Does o a left → r ≡ result (answered_number a) → Calls (read_call s us out o) r left
-reads_on s us o p q d e = lent_does s us p q refl (e ∙ ap (λ (x : Answered). result (answered_number x)) d.answers) d.left
+    → first_that (lent_house s) ≡ none → first_that us ≡ none → Does o a left → r ≡ result_number (answered_number a) → Calls (read_call s us out o) r left
+reads_on s us o p q d e = lent_does s us p q refl (e ∙ ap (λ (x : Answered). result_number (answered_number x)) d.answers) d.left
 
 -- a call that reads what o says, with no house refusal but those of a lent replica
 pub record Reads (s out : List ℕ) (o : Answered × List ℕ) (call : CCall (List ℕ)) : Type 0 where
@@ -66,21 +66,21 @@ module _ (s out : List ℕ) where
   save_reads = record { is = refl }
 
 module _ {s out : List ℕ} {o : Answered × List ℕ} {call : CCall (List ℕ)} (k : Reads s out o call) {n r : ℕ} (h : House (lent_house s) n) where
-  pub read_refuses : (n ≡ 0 → ⊥) → r ≡ result (refused n) → Calls call r out
+  pub read_refuses : (n ≡ 0 → ⊥) → r ≡ result_number (refused n) → Calls call r out
   read_refuses ne e = rw k.is (lent_refuses s [] n h ne e)
 
-  pub read_answers : n ≡ 0 → {a : Answered} {left : List ℕ} → Does o a left → r ≡ result (answered_number a) → Calls call r left
+  pub read_answers : n ≡ 0 → {a : Answered} {left : List ℕ} → Does o a left → r ≡ result_number (answered_number a) → Calls call r left
   read_answers z d e = rw k.is (reads_on s [] o (none_first (lent_house s) n h z) no_house d e)
 
 -- ---- path: 104 after 100 and 106
 
 module _ (s : List ℕ) (i : Id) (number : ℕ) (hash out : List ℕ) (fine : first_that (lent_house s) ≡ none) where
-  pub path_bad_hash : (r : ℕ) → (length hash ≡ hash_size → ⊥) → r ≡ result (refused 104) → Calls (path_call s i number hash out) r out
+  pub path_bad_hash : (r : ℕ) → (length hash ≡ hash_size → ⊥) → r ≡ result_number (refused 104) → Calls (path_call s i number hash out) r out
   unfolding path_call bad_hash first_that
   path_bad_hash r ne e = more_refuses s _ fine 104 (record { first = rw (ne_eqb (length hash) hash_size ne); most = omega arith }) (λ z. omega arith) e
 
   pub path_answers : (h : List ℕ) (a : Answered) (left : List ℕ) (r : ℕ) → length hash ≡ hash_size → IsHash hash 0 h
-      → Does (read_path (replica_of s) i (revision number h) out) a left → r ≡ result (answered_number a) → Calls (path_call s i number hash out) r left
+      → Does (read_path (replica_of s) i (revision number h) out) a left → r ≡ result_number (answered_number a) → Calls (path_call s i number hash out) r left
   unfolding path_call bad_hash part first_that
   path_answers h a left r e k d q =
       let same : h ≡ hash = k.is ∙ take_all 16 hash (omega arith) in
@@ -89,7 +89,7 @@ module _ (s : List ℕ) (i : Id) (number : ℕ) (hash out : List ℕ) (fine : fi
 -- ---- counts
 
 module _ (s answer : List ℕ) (fine : first_that (lent_house s) ≡ none) where
-  pub counts_short : (r : ℕ) → length answer < 8 → r ≡ result (refused 14) → Calls (counts_call s answer) r answer
+  pub counts_short : (r : ℕ) → length answer < 8 → r ≡ result_number (refused 14) → Calls (counts_call s answer) r answer
   unfolding counts_call held_bytes short_answer
   counts_short r h q = lent_does s _ fine no_house (short_answer_lem _ _ _ answer h) q refl
 
@@ -116,13 +116,13 @@ read_of out f =
 
 -- the answer without a buffer for it
 module _ (s : List ℕ) (after : Seq) (n : Next) (is : IsNext after 0 (documents_of s) n) where
-  pub short_none : n ≡ Nobody → 0 ≡ result (maybe (accepted 0) (λ d. short_answer) (first_of (documents_after after (documents_of s))))
+  pub short_none : n ≡ Nobody → 0 ≡ result_number (maybe (accepted 0) (λ d. short_answer) (first_of (documents_after after (documents_of s))))
   short_none e =
       let z : IsNext after 0 (documents_of s) Nobody = rw e at is in
       rw z refl
 
-  pub short_next : (d : ℕ) (q : Seq) (r : ℕ) → n ≡ At d q → r ≡ result (refused 14)
-      → r ≡ result (maybe (accepted 0) (λ x. short_answer) (first_of (documents_after after (documents_of s))))
+  pub short_next : (d : ℕ) (q : Seq) (r : ℕ) → n ≡ At d q → r ≡ result_number (refused 14)
+      → r ≡ result_number (maybe (accepted 0) (λ x. short_answer) (first_of (documents_after after (documents_of s))))
   unfolding short_answer
   short_next d q r e g =
       let z : IsNext after 0 (documents_of s) (At d q) = rw e at is in
@@ -153,7 +153,7 @@ module _ (s : List ℕ) (after : ℕ) (out answer : List ℕ) (fine : first_that
       go true = refl
       go false = short_answer_lem _ _ _ answer h
 
-  pub changes_short : (r : ℕ) → length answer < 16 → r ≡ result (maybe (accepted 0) (λ d. short_answer) next) → Calls (changes_call s after out answer) r (out, answer)
+  pub changes_short : (r : ℕ) → length answer < 16 → r ≡ result_number (maybe (accepted 0) (λ d. short_answer) next) → Calls (changes_call s after out answer) r (out, answer)
   unfolding changes_call read_changes
   changes_short r h e = lent_does s _ fine no_house (short_of h next) e refl
 
@@ -182,15 +182,15 @@ module _ (s : List ℕ) (after : ℕ) (out answer : List ℕ) (fine : first_that
       (ap (λ (l : List ℕ). (l, answer)) (left_alone a left d (λ c f. let z : ◌≡◌ {A = ℕ} 0 1 = cc in omega arith)))
 
   pub changes_refused : (a : Changes) (n : Refusal) (left : List ℕ) (k r : ℕ) → a ≡ changed.Refused n
-      → Does (read_changes (replica_of s) (record { 0 = after }) out) a left → k ≡ refusal_number n → r ≡ result (refused k)
+      → Does (read_changes (replica_of s) (record { 0 = after }) out) a left → k ≡ refusal_number n → r ≡ result_number (refused k)
       → Calls (changes_call s after out answer) r (left, answer)
   changes_refused a n left k r e d f q =
-      made (answers_as a left d ∙ ap (λ (x : Changes). changes_as out answer (x, left)) e) (q ∙ ap (λ (m : ℕ). result (refused m)) f)
+      made (answers_as a left d ∙ ap (λ (x : Changes). changes_as out answer (x, left)) e) (q ∙ ap (λ (m : ℕ). result_number (refused m)) f)
       (ap (λ (l : List ℕ). (l, answer)) (left_alone a left d (λ c g. let z : ◌≡◌ {A = ℕ} 0 1 = cc in omega arith)))
 
 -- ---- report
 
-pub report_answers : (image out : List ℕ) (a : Answered) (left : List ℕ) (r : ℕ) → Does (read_report image out) a left → r ≡ result (answered_number a)
+pub report_answers : (image out : List ℕ) (a : Answered) (left : List ℕ) (r : ℕ) → Does (read_report image out) a left → r ≡ result_number (answered_number a)
     → Calls (report_call image out) r left
 unfolding report_call
-report_answers image out a left r d q = does no_house refl (q ∙ ap (λ (x : Answered). result (answered_number x)) d.answers) d.left
+report_answers image out a left r d q = does no_house refl (q ∙ ap (λ (x : Answered). result_number (answered_number x)) d.answers) d.left

@@ -45,8 +45,8 @@ abbrev pub result_of : ℕ → ℕ → ℕ
 result_of zero v = v
 result_of (suc n) v = refused_from + suc n * 4294967296 + v
 
-abbrev pub result : Numbered → ℕ
-result n = result_of n.refusal n.value
+abbrev pub result_number : Numbered → ℕ
+result_number n = result_of n.refusal n.value
 
 -- n is the number of a refusal, the greatest of which is 43
 pub record RefusalOf (r : Refusal) (n : ℕ) : Type 0 where
@@ -108,7 +108,7 @@ outcome c = maybe c.does (λ n. (refused n, c.lent)) (first_that c.house)
 
 -- a call that answers r, and leaves what was lent to be changed, as its outcome says
 pub record Calls {L : Type 0} (c : CCall L) (r : ℕ) (buffer : L) : Type 0 where
-  pub answers : r ≡ result (outcome c).0
+  pub answers : r ≡ result_number (outcome c).0
   pub left : buffer ≡ (outcome c).1
 
 -- such a call of what is lent a replica's buffer: where it accepts, it leaves a replica there

@@ -8,15 +8,13 @@ use codec::is_replica;
 // 0.3.0 as one number.
 const VERSION: u64 = 3000;
 
-#[unsafe(no_mangle)]
-pub extern "C" fn refile_version() -> u64
+pub fn refile_version() -> u64
     ensures { result ≡ version }
 {
     VERSION
 }
 
-#[unsafe(no_mangle)]
-pub extern "C" fn refile_is_replica(bytes: &[u8]) -> u64
+pub fn refile_is_replica(bytes: &[u8]) -> u64
     ensures { Says (IsStored bytes.now) result }
 {
     if is_replica(bytes) {

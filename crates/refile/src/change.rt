@@ -22,8 +22,7 @@ use writes::write;
 // What pull writes to its answer: three numbers.
 const COUNTS: usize = 12;
 
-#[unsafe(no_mangle)]
-pub extern "C" fn refile_fresh(replica: &mut [u8]) -> u64
+pub fn refile_fresh(replica: &mut [u8]) -> u64
     ensures { Keeps (fresh_call replica.old) result replica.new replica.new }
 {
     if replica.len() != SIZE {
@@ -33,8 +32,7 @@ pub extern "C" fn refile_fresh(replica: &mut [u8]) -> u64
     0
 }
 
-#[unsafe(no_mangle)]
-pub extern "C" fn refile_load(replica: &mut [u8], image: &[u8]) -> u64
+pub fn refile_load(replica: &mut [u8], image: &[u8]) -> u64
     ensures { Keeps (load_call replica.old image.now) result replica.new replica.new }
 {
     if replica.len() != SIZE {
@@ -43,8 +41,7 @@ pub extern "C" fn refile_load(replica: &mut [u8], image: &[u8]) -> u64
     loaded(load(replica, image))
 }
 
-#[unsafe(no_mangle)]
-pub extern "C" fn refile_save(replica: &[u8], out: &mut [u8]) -> u64
+pub fn refile_save(replica: &[u8], out: &mut [u8]) -> u64
     requires { Lent replica.now }
     ensures { Calls (save_call replica.now out.old) result out.new }
 {
@@ -71,8 +68,7 @@ fn bad_content(kind: u32, label: u64) -> u64
     0
 }
 
-#[unsafe(no_mangle)]
-pub extern "C" fn refile_write(
+pub fn refile_write(
     replica: &mut [u8],
     id: &[u8],
     number: u32,
@@ -95,8 +91,7 @@ pub extern "C" fn refile_write(
     written(write(replica, id, RevNumber(number), path, content))
 }
 
-#[unsafe(no_mangle)]
-pub extern "C" fn refile_take_in(replica: &mut [u8], line: &[u8]) -> u64
+pub fn refile_take_in(replica: &mut [u8], line: &[u8]) -> u64
     requires { Lent replica.old }
     ensures { TakesCall replica.old line.now result replica.new }
 {
@@ -159,8 +154,7 @@ fn parent_from(named: u32, number: u32, hash: &[u8]) -> Revision
     }
 }
 
-#[unsafe(no_mangle)]
-pub extern "C" fn refile_edit(
+pub fn refile_edit(
     replica: &mut [u8],
     id: &[u8],
     hash: &[u8],
@@ -187,13 +181,7 @@ pub extern "C" fn refile_edit(
     edited(edit(replica, id, new, content, named == 1, rev))
 }
 
-#[unsafe(no_mangle)]
-pub extern "C" fn refile_pull(
-    target: &mut [u8],
-    source: &[u8],
-    after: u32,
-    answer: &mut [u8],
-) -> u64
+pub fn refile_pull(target: &mut [u8], source: &[u8], after: u32, answer: &mut [u8]) -> u64
     requires { Lent target.old × Lent source.now }
     ensures { Keeps (pull_call target.old source.now after answer.old) result (target.new, answer.new) target.new }
 {

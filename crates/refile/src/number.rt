@@ -1,7 +1,7 @@
 // One number for each outcome.
 ghost use Rattle.std.specs.Prelude.{◌≡◌, ◌+◌, ◌*◌, ◌≤◌};
 ghost use Rattle.rules.specs.Answer.{refused, written_number, edited_number, answered_number, loaded_number};
-ghost use Rattle.refile.specs.Boundary.{result, content_from, RefusalOf, SmallPlace, House, lent_house};
+ghost use Rattle.refile.specs.Boundary.{result_number, content_from, RefusalOf, SmallPlace, House, lent_house};
 
 use faults::fault_number;
 use layout::SIZE;
@@ -33,7 +33,7 @@ pub(crate) const SHORT_ANSWER: u64 = 14;
 
 // The house refusal of a buffer that is lent as a replica, 0 if there is none.
 pub(crate) fn bad_replica(replica: &[u8]) -> u64
-    ensures* { λ n. ⌜ House (lent_house replica.now) n ⌝ }
+    ensures { House (lent_house replica.now) result }
 {
     if replica.len() != SIZE {
         return BAD_REPLICA;
@@ -46,7 +46,7 @@ pub(crate) fn bad_replica(replica: &[u8]) -> u64
 
 // The number of a refusal.
 pub(crate) fn refusal_number(r: Refusal) -> u64
-    ensures* { λ n. ⌜ RefusalOf r n ⌝ }
+    ensures { RefusalOf r result }
 {
     match r {
         Refusal::BadId => 1,
@@ -74,13 +74,13 @@ pub(crate) fn refusal_number(r: Refusal) -> u64
 // A refusal with no place.
 pub(crate) fn refused(n: u64) -> u64
     requires { (1 ≤ n) × (n ≤ 106) }
-    ensures* { λ r. ⌜ r ≡ result (refused n) ⌝ }
+    ensures { result ≡ result_number (refused n) }
 {
     9223372036854775808 + n * 4294967296
 }
 
 pub(crate) fn written(a: Written) -> u64
-    ensures* { λ r. ⌜ r ≡ result (written_number a) ⌝ }
+    ensures { result ≡ result_number (written_number a) }
 {
     match a {
         Written::Accepted(o) => match o {
@@ -92,7 +92,7 @@ pub(crate) fn written(a: Written) -> u64
 }
 
 pub(crate) fn edited(a: Edited) -> u64
-    ensures* { λ r. ⌜ r ≡ result (edited_number a) ⌝ }
+    ensures { result ≡ result_number (edited_number a) }
 {
     match a {
         Edited::Accepted(n) => n.0 as u64,
@@ -101,7 +101,7 @@ pub(crate) fn edited(a: Edited) -> u64
 }
 
 pub(crate) fn answered(a: Answered) -> u64
-    ensures* { λ r. ⌜ r ≡ result (answered_number a) ⌝ }
+    ensures { result ≡ result_number (answered_number a) }
 {
     match a {
         Answered::Count(n) => n as u64,
@@ -112,7 +112,7 @@ pub(crate) fn answered(a: Answered) -> u64
 // An image's refusal has its place in the lower half.
 pub(crate) fn loaded(a: Loaded) -> u64
     requires { SmallPlace a }
-    ensures* { λ r. ⌜ r ≡ result (loaded_number a) ⌝ }
+    ensures { result ≡ result_number (loaded_number a) }
 {
     match a {
         Loaded::Accepted => 0,
@@ -122,7 +122,7 @@ pub(crate) fn loaded(a: Loaded) -> u64
 
 // The content that a kind and a label are: any kind but live is a deletion.
 pub(crate) fn content_from(kind: u32, label: u64) -> Content
-    ensures* { λ r. ⌜ r ≡ content_from kind label ⌝ }
+    ensures { result ≡ content_from kind label }
 {
     if kind == LIVE {
         return Content::Live(label);

@@ -5,7 +5,7 @@ ghost use Rattle.rules.specs.Choice.{maybe};
 ghost use Rattle.rules.specs.Read.{front, first_of, documents_after};
 ghost use Rattle.store.specs.Documents.{documents_of};
 ghost use Rattle.store.specs.Storage.{IsStored};
-ghost use Rattle.refile.specs.Boundary.{Lent, Calls, result, short_answer, flag_number, change_bytes, winner_call, leaves_call, path_call, missing_call, put_out_call, put_out_size_call, changes_call, sequence_call, counts_call, report_call};
+ghost use Rattle.refile.specs.Boundary.{Lent, Calls, result_number, short_answer, flag_number, change_bytes, winner_call, leaves_call, path_call, missing_call, put_out_call, put_out_size_call, changes_call, sequence_call, counts_call, report_call};
 
 use crate::answer::put_numbers;
 use crate::number::{BAD_HASH, SHORT_ANSWER, answered, bad_replica, refusal_number, refused};
@@ -21,10 +21,9 @@ const CHANGES: usize = 16;
 
 const COUNTS: usize = 8;
 
-#[unsafe(no_mangle)]
-pub extern "C" fn refile_winner(replica: &[u8], id: &[u8], out: &mut [u8]) -> u64
+pub fn refile_winner(replica: &[u8], id: &[u8], out: &mut [u8]) -> u64
     requires { Lent replica.now }
-    ensures* { λ r. ⌜ Calls (winner_call replica.now id.now out.old) r out.new ⌝ }
+    ensures { Calls (winner_call replica.now id.now out.old) result out.new }
 {
     let lent = bad_replica(replica);
     if lent != 0 {
@@ -33,10 +32,9 @@ pub extern "C" fn refile_winner(replica: &[u8], id: &[u8], out: &mut [u8]) -> u6
     answered(winner(replica, id, out))
 }
 
-#[unsafe(no_mangle)]
-pub extern "C" fn refile_leaves(replica: &[u8], id: &[u8], out: &mut [u8]) -> u64
+pub fn refile_leaves(replica: &[u8], id: &[u8], out: &mut [u8]) -> u64
     requires { Lent replica.now }
-    ensures* { λ r. ⌜ Calls (leaves_call replica.now id.now out.old) r out.new ⌝ }
+    ensures { Calls (leaves_call replica.now id.now out.old) result out.new }
 {
     let lent = bad_replica(replica);
     if lent != 0 {
@@ -45,16 +43,9 @@ pub extern "C" fn refile_leaves(replica: &[u8], id: &[u8], out: &mut [u8]) -> u6
     answered(leaves(replica, id, out))
 }
 
-#[unsafe(no_mangle)]
-pub extern "C" fn refile_path(
-    replica: &[u8],
-    id: &[u8],
-    number: u32,
-    hash: &[u8],
-    out: &mut [u8],
-) -> u64
+pub fn refile_path(replica: &[u8], id: &[u8], number: u32, hash: &[u8], out: &mut [u8]) -> u64
     requires { Lent replica.now }
-    ensures* { λ r. ⌜ Calls (path_call replica.now id.now number hash.now out.old) r out.new ⌝ }
+    ensures { Calls (path_call replica.now id.now number hash.now out.old) result out.new }
 {
     let lent = bad_replica(replica);
     if lent != 0 {
@@ -70,10 +61,9 @@ pub extern "C" fn refile_path(
     answered(path(replica, id, rev, out))
 }
 
-#[unsafe(no_mangle)]
-pub extern "C" fn refile_missing(replica: &[u8], id: &[u8], asked: &[u8], out: &mut [u8]) -> u64
+pub fn refile_missing(replica: &[u8], id: &[u8], asked: &[u8], out: &mut [u8]) -> u64
     requires { Lent replica.now }
-    ensures* { λ r. ⌜ Calls (missing_call replica.now id.now asked.now out.old) r out.new ⌝ }
+    ensures { Calls (missing_call replica.now id.now asked.now out.old) result out.new }
 {
     let lent = bad_replica(replica);
     if lent != 0 {
@@ -82,10 +72,9 @@ pub extern "C" fn refile_missing(replica: &[u8], id: &[u8], asked: &[u8], out: &
     answered(missing(replica, id, asked, out))
 }
 
-#[unsafe(no_mangle)]
-pub extern "C" fn refile_update_sequence(replica: &[u8]) -> u64
+pub fn refile_update_sequence(replica: &[u8]) -> u64
     requires { Lent replica.now }
-    ensures* { λ r. ⌜ Calls (sequence_call replica.now) r tt ⌝ }
+    ensures { Calls (sequence_call replica.now) result tt }
 {
     let lent = bad_replica(replica);
     if lent != 0 {
@@ -95,10 +84,9 @@ pub extern "C" fn refile_update_sequence(replica: &[u8]) -> u64
     q.0 as u64
 }
 
-#[unsafe(no_mangle)]
-pub extern "C" fn refile_counts(replica: &[u8], answer: &mut [u8]) -> u64
+pub fn refile_counts(replica: &[u8], answer: &mut [u8]) -> u64
     requires { Lent replica.now }
-    ensures* { λ r. ⌜ Calls (counts_call replica.now answer.old) r answer.new ⌝ }
+    ensures { Calls (counts_call replica.now answer.old) result answer.new }
 {
     let lent = bad_replica(replica);
     if lent != 0 {
@@ -114,7 +102,7 @@ pub extern "C" fn refile_counts(replica: &[u8], answer: &mut [u8]) -> u64
 }
 
 fn flag(b: bool) -> usize
-    ensures* { λ r. ⌜ r ≡ flag_number b ⌝ }
+    ensures { result ≡ flag_number b }
 {
     if b { 1 } else { 0 }
 }
@@ -122,7 +110,7 @@ fn flag(b: bool) -> usize
 // Writes what changed.
 fn put_change(c: Change, answer: &mut [u8])
     requires { 16 ≤ length answer.old }
-    ensures* { λ _. ⌜ answer.new ≡ front (change_bytes c) answer.old ⌝ }
+    ensures { answer.new ≡ front (change_bytes c) answer.old }
 {
     let q = c.seq;
     let gone = flag(c.deleted);
@@ -133,7 +121,7 @@ fn put_change(c: Change, answer: &mut [u8])
 // An answer buffer that is too short is refused, except where there is no more to answer.
 fn short_changes(replica: &[u8], after: Seq) -> u64
     requires { IsStored replica.now }
-    ensures* { λ r. ⌜ r ≡ result (maybe (accepted 0) (λ _. short_answer) (first_of (documents_after after (documents_of replica.now)))) ⌝ }
+    ensures { result ≡ result_number (maybe (accepted 0) (λ _. short_answer) (first_of (documents_after after (documents_of replica.now)))) }
 {
     match next_after(replica, after) {
         Next::Nobody => 0,
@@ -141,10 +129,9 @@ fn short_changes(replica: &[u8], after: Seq) -> u64
     }
 }
 
-#[unsafe(no_mangle)]
-pub extern "C" fn refile_put_out(replica: &[u8], id: &[u8], out: &mut [u8]) -> u64
+pub fn refile_put_out(replica: &[u8], id: &[u8], out: &mut [u8]) -> u64
     requires { Lent replica.now }
-    ensures* { λ r. ⌜ Calls (put_out_call replica.now id.now out.old) r out.new ⌝ }
+    ensures { Calls (put_out_call replica.now id.now out.old) result out.new }
 {
     let lent = bad_replica(replica);
     if lent != 0 {
@@ -153,10 +140,9 @@ pub extern "C" fn refile_put_out(replica: &[u8], id: &[u8], out: &mut [u8]) -> u
     answered(put_out(replica, id, out))
 }
 
-#[unsafe(no_mangle)]
-pub extern "C" fn refile_put_out_size(replica: &[u8], id: &[u8]) -> u64
+pub fn refile_put_out_size(replica: &[u8], id: &[u8]) -> u64
     requires { Lent replica.now }
-    ensures* { λ r. ⌜ Calls (put_out_size_call replica.now id.now) r tt ⌝ }
+    ensures { Calls (put_out_size_call replica.now id.now) result tt }
 {
     let lent = bad_replica(replica);
     if lent != 0 {
@@ -165,15 +151,9 @@ pub extern "C" fn refile_put_out_size(replica: &[u8], id: &[u8]) -> u64
     answered(put_out_size(replica, id))
 }
 
-#[unsafe(no_mangle)]
-pub extern "C" fn refile_changes(
-    replica: &[u8],
-    after: u32,
-    out: &mut [u8],
-    answer: &mut [u8],
-) -> u64
+pub fn refile_changes(replica: &[u8], after: u32, out: &mut [u8], answer: &mut [u8]) -> u64
     requires { Lent replica.now }
-    ensures* { λ r. ⌜ Calls (changes_call replica.now after out.old answer.old) r (out.new, answer.new) ⌝ }
+    ensures { Calls (changes_call replica.now after out.old answer.old) result (out.new, answer.new) }
 {
     let lent = bad_replica(replica);
     if lent != 0 {
@@ -192,9 +172,8 @@ pub extern "C" fn refile_changes(
     }
 }
 
-#[unsafe(no_mangle)]
-pub extern "C" fn refile_report(image: &[u8], out: &mut [u8]) -> u64
-    ensures* { λ r. ⌜ Calls (report_call image.now out.old) r out.new ⌝ }
+pub fn refile_report(image: &[u8], out: &mut [u8]) -> u64
+    ensures { Calls (report_call image.now out.old) result out.new }
 {
     answered(report(image, out))
 }
