@@ -6,7 +6,8 @@ use Prim.Native.Nat.{ℕ, zero, suc, ◌*◌, ◌^◌, ◌<◌, ◌≤◌}
 use native.Mathlib.Omega.{arith}
 use borrow.Author.Tests.{eq-eqb}
 use lib.ListN.{length}
-use denote.Ref.{Bor}
+use denote.Bor.{Bor}
+use denote.MutBor.{MutBor}
 use denote.Triple.Clauses.{AtExit}
 use contract.Lifetimes.{Lfts}
 use borrow.Fn.Kinds.{Dens, GoodsP, r_num, ended_of}
@@ -56,6 +57,10 @@ Small s = length s < refused_from
 abbrev slice : List ℕ → Bor (List ℕ)
 slice s = record { ref_ptr = (0, 0); now = s }
 
+-- one that is lent to be changed
+abbrev lent_slice : List ℕ → MutBor (List ℕ)
+lent_slice s = record { ref_ptr = (0, 0); ghost_name = 0; now = s }
+
 room : (s : List ℕ) → Small s → (length s < 2 ^ 64) × (length s * 1 < 2 ^ 63)
 room s h = (omega arith, omega arith)
 
@@ -94,7 +99,7 @@ done c e = does e refl refl refl
 pub fresh_exists : (s : List ℕ) → length s ≡ store_size → Called C.fresh s 0 (stored fresh)
 unfolding fresh_call
 fresh_exists s e =
-    called C.fresh (slice s, tt) 0 (slice (stored fresh), tt) ((omega arith, omega arith), tt) tt
+    called C.fresh (lent_slice s, tt) 0 (lent_slice (stored fresh), tt) ((omega arith, omega arith), tt) tt
     (record { calls = done (fresh_call s) (sized s e); stands = λ h. (holding fresh (stored fresh) union.fresh_is_replica refl).is })
 
 -- ---- write
@@ -111,9 +116,9 @@ pub write_exists : (s : List ℕ) (w : Write) → IsStored s → IsWrite w → S
     → WriteCall s w (result_number (written_number (write (replica_of s) w).0)) (stored (write (replica_of s) w).1)
 write_exists s w i g a b = record {
   call = called C.write
-      (slice s, (slice w.id, (w.number.0, (slice w.path, (content_kind w.content, (content_label w.content, tt))))))
+      (lent_slice s, (slice w.id, (w.number.0, (slice w.path, (content_kind w.content, (content_label w.content, tt))))))
       _
-      (slice (stored (write (replica_of s) w).1), (slice w.id, (w.number.0, (slice w.path, (content_kind w.content, (content_label w.content, tt)))))) (
+      (lent_slice (stored (write (replica_of s) w).1), (slice w.id, (w.number.0, (slice w.path, (content_kind w.content, (content_label w.content, tt)))))) (
         stored_room s i,
         (room w.id a, ((refl, let n = g.number in omega arith), (room w.path b, ((refl, kind_low w.content), ((refl, label_low w.content g.content), tt))))),
       )
@@ -144,9 +149,9 @@ pub edit_exists : (s : List ℕ) (e : Edit) → IsStored s → IsEdit e → Smal
     → EditCall s e (result_number (edited_number (edit (replica_of s) e).0)) (stored (edit (replica_of s) e).1)
 edit_exists s e i g a y l = let p = e.parent in record {
   call = called C.edit
-      (slice s, (slice e.id, (slice e.hash, (content_kind e.content, (content_label e.content, (parent_named p, (parent_number p, (slice (parent_hash p), tt))))))))
+      (lent_slice s, (slice e.id, (slice e.hash, (content_kind e.content, (content_label e.content, (parent_named p, (parent_number p, (slice (parent_hash p), tt))))))))
       _ (
-        slice (stored (edit (replica_of s) e).1),
+        lent_slice (stored (edit (replica_of s) e).1),
         (slice e.id, (slice e.hash, (content_kind e.content, (content_label e.content, (parent_named p, (parent_number p, (slice (parent_hash p), tt))))))),
       ) (
         stored_room s i,
@@ -177,7 +182,7 @@ edit_exists s e i g a y l = let p = e.parent in record {
 pub save_exists : (s out : List ℕ) → IsStored s → Small out → Called C.save (s, out) (result_number (answered_number (save (replica_of s) out).0)) (save (replica_of s) out).1
 unfolding save_call
 save_exists s out i h =
-    called C.save (slice s, (slice out, tt)) _ (slice s, (slice (save (replica_of s) out).1, tt)) (stored_room s i, (room out h, tt)) (lent s i)
+    called C.save (slice s, (lent_slice out, tt)) _ (slice s, (lent_slice (save (replica_of s) out).1, tt)) (stored_room s i, (room out h, tt)) (lent s i)
     (done (save_call s out) (replica_past s [] i no_house))
 
 -- ---- load
@@ -201,7 +206,7 @@ module _ (s image : List ℕ) (e : length s ≡ store_size) (g : Bytes image) (h
   pub load_exists : LoadCall s image (result_number (loaded_number loading.0)) loading.1
   unfolding load_call
   load_exists = record {
-    call = called C.load (slice s, (slice image, tt)) _ (slice loading.1, (slice image, tt)) (room s (omega arith), (room image h, tt)) tt
+    call = called C.load (lent_slice s, (slice image, tt)) _ (lent_slice loading.1, (slice image, tt)) (room s (omega arith), (room image h, tt)) tt
         (record { calls = done (load_call s image) (sized s e); stands = load_stands });
     given = g;
   }
@@ -215,8 +220,8 @@ module _ (t s : List ℕ) (q : Seq) (answer : List ℕ) (i : IsStored t) (j : Is
   pub pull_exists : Called C.pull (t, s, q, answer) 0 (stored pulling.1, front (count_bytes pulling.0) answer)
   unfolding pull_call count_bytes
   pull_exists =
-      called C.pull (slice t, (slice s, (q.0, (slice answer, tt)))) 0
-      (slice (stored pulling.1), (slice s, (q.0, (slice (front (count_bytes pulling.0) answer), tt))))
+      called C.pull (lent_slice t, (slice s, (q.0, (lent_slice answer, tt)))) 0
+      (lent_slice (stored pulling.1), (slice s, (q.0, (lent_slice (front (count_bytes pulling.0) answer), tt))))
       (stored_room t i, (stored_room s j, ((refl, l), (room answer h, tt)))) (lent t i, lent s j)
       (record {
         calls = does (replica_past t (lent_house s) i (replica_passes s j))
@@ -231,28 +236,28 @@ module _ (s : List ℕ) (j : Id) (out : List ℕ) (i : IsStored s) (a : Small j)
   pub winner_exists : Called C.winner (s, j, out) (result_number (answered_number (read_winner (replica_of s) j out).0)) (read_winner (replica_of s) j out).1
   unfolding winner_call
   winner_exists =
-      called C.winner (slice s, (slice j, (slice out, tt))) _ (slice s, (slice j, (slice (read_winner (replica_of s) j out).1, tt)))
+      called C.winner (slice s, (slice j, (lent_slice out, tt))) _ (slice s, (slice j, (lent_slice (read_winner (replica_of s) j out).1, tt)))
       (stored_room s i, (room j a, (room out h, tt))) (lent s i) (done (winner_call s j out) (replica_past s [] i no_house))
 
   pub leaves_exists : Called C.leaves (s, j, out) (result_number (answered_number (read_leaves (replica_of s) j out).0)) (read_leaves (replica_of s) j out).1
   unfolding leaves_call
   leaves_exists =
-      called C.leaves (slice s, (slice j, (slice out, tt))) _ (slice s, (slice j, (slice (read_leaves (replica_of s) j out).1, tt)))
+      called C.leaves (slice s, (slice j, (lent_slice out, tt))) _ (slice s, (slice j, (lent_slice (read_leaves (replica_of s) j out).1, tt)))
       (stored_room s i, (room j a, (room out h, tt))) (lent s i) (done (leaves_call s j out) (replica_past s [] i no_house))
 
   pub missing_exists : (asked : List ℕ) → Small asked
       → Called C.missing (s, j, asked, out) (result_number (answered_number (read_missing (replica_of s) j asked out).0)) (read_missing (replica_of s) j asked out).1
   unfolding missing_call
   missing_exists asked g =
-      called C.missing (slice s, (slice j, (slice asked, (slice out, tt)))) _ (slice s, (slice j, (slice asked, (slice (read_missing (replica_of s) j asked out).1, tt))))
+      called C.missing (slice s, (slice j, (slice asked, (lent_slice out, tt)))) _ (slice s, (slice j, (slice asked, (lent_slice (read_missing (replica_of s) j asked out).1, tt))))
       (stored_room s i, (room j a, (room asked g, (room out h, tt)))) (lent s i) (done (missing_call s j asked out) (replica_past s [] i no_house))
 
   pub path_exists : (v : Revision) → length v.hash ≡ hash_size → v.number.0 < 4294967296
       → Called C.path (s, j, v.number.0, v.hash, out) (result_number (answered_number (read_path (replica_of s) j v out).0)) (read_path (replica_of s) j v out).1
   unfolding path_call first_that bad_hash
   path_exists v z l =
-      called C.path (slice s, (slice j, (v.number.0, (slice v.hash, (slice out, tt))))) _
-      (slice s, (slice j, (v.number.0, (slice v.hash, (slice (read_path (replica_of s) j v out).1, tt)))))
+      called C.path (slice s, (slice j, (v.number.0, (slice v.hash, (lent_slice out, tt))))) _
+      (slice s, (slice j, (v.number.0, (slice v.hash, (lent_slice (read_path (replica_of s) j v out).1, tt)))))
       (stored_room s i, (room j a, ((refl, omega arith), (room v.hash (omega arith), (room out h, tt))))) (lent s i)
       (done (path_call s j v.number.0 v.hash out) (replica_past s (bad_hash v.hash ∷ []) i (rw (eq-eqb (length v.hash) hash_size z))))
 
@@ -268,5 +273,5 @@ module _ (s : List ℕ) (q : Seq) (out answer : List ℕ) (i : IsStored s) (h : 
   pub changes_exists : Called C.changes (s, q, out, answer) (result_number changing.0) (changing.1.0, changing.1.1)
   unfolding changes_call
   changes_exists =
-      called C.changes (slice s, (q.0, (slice out, (slice answer, tt)))) _ (slice s, (q.0, (slice changing.1.0, (slice changing.1.1, tt))))
+      called C.changes (slice s, (q.0, (lent_slice out, (lent_slice answer, tt)))) _ (slice s, (q.0, (lent_slice changing.1.0, (lent_slice changing.1.1, tt))))
       (stored_room s i, ((refl, l), (room out h, (room answer g, tt)))) (lent s i) (done (changes_call s q.0 out answer) (replica_past s [] i no_house))

@@ -54,7 +54,7 @@ use Rattle.demands.proofs.Results.{take_in_tells, take_in_holds, put_out_tells, 
 -- ---- one line taken in
 
 only_forty : (x : Refusal) → refusal_number x ≡ 40 → x ≡ NotJson
-only_forty x = elim x [
+only_forty x = elim x as (λ (k : Refusal). refusal_number k ≡ 40 → k ≡ NotJson) [
   | BadId ↦ λ e. absurd (omega arith)
   | BadPath ↦ λ e. absurd (omega arith)
   | LowNumber ↦ λ e. absurd (omega arith)
