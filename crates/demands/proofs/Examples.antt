@@ -9,7 +9,7 @@ use Rattle.rules.specs.Examples.{lot, Step, Seen, then, anew, fresh_saved, wrote
 use Rattle.rules.specs.Image.{save}
 use Rattle.rules.specs.Answer.{answered_number}
 use Rattle.rules.specs.Read.{leaves, winner}
-use Rattle.rules.specs.Replica.{Replica, fresh, tree_of}
+use Rattle.rules.specs.Replica.{Replica, tree_of}
 use Rattle.rules.specs.Write.{Write, write}
 use Rattle.rules.proofs.Examples as rules
 use Rattle.store.specs.Storage.{replica_of, IsStored}

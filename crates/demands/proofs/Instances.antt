@@ -16,10 +16,10 @@ use Rattle.rules.specs.Bytes.{Bytes, be, value, value_from, part, join, pieces}
 use Rattle.rules.specs.Answer.{Numbered, accepted, edited_number}
 use Rattle.rules.specs.Choice.{any, first_that, how_many}
 use Rattle.rules.specs.Edit.{Edit, is_leaf, deleted_winner, parent_of, parent_rule, new_number, as_write, already_known, last_number, edit_refusals, edit}
-use Rattle.rules.specs.Examples.{lot, hash, on, Step, Seen, then, anew, fresh_saved, saved, table, steps_of, seen_of}
+use Rattle.rules.specs.Examples.{lot, hash, on, Step, Seen, then, anew, fresh_saved, table, steps_of, seen_of}
 use Rattle.rules.specs.Map.{find, alter}
 use Rattle.rules.specs.Order.{order_n, order_bytes, order_rev, same_rev}
-use Rattle.rules.specs.Pull.{offers, count, pull}
+use Rattle.rules.specs.Pull.{offers, pull}
 use Rattle.rules.specs.Read.{leaves, order_leaf, highest, winner, insert_by_seq, documents_after, front, short_buffer, change_of, read_changes}
 use Rattle.rules.specs.Replica.{Id, Replica, IsContent, fresh, document_of, tree_of, revisions_held}
 use Rattle.rules.specs.Room.{number_most, revisions_most, labels}

@@ -2,7 +2,7 @@
 use mathlib.Core.Path.{◌≡◌, refl, sym, ap, ◌∙◌, subst}
 use mathlib.Core.Bool.{Bool, true, false}
 use mathlib.Core.List.{List, [], ◌∷◌, ◌++◌}
-use mathlib.Core.Logic.{◌↔◌, ◌⊎◌, inl, inr}
+use mathlib.Core.Logic.{◌↔◌, inl, inr}
 use mathlib.Core.Option.{Option, none, some}
 use Prim.Native.Nat.{ℕ, ◌≤◌}
 use native.Mathlib.Omega.{arith}
@@ -12,7 +12,6 @@ use lib.ListN.{length, take}
 use lib.Seq.{take_at}
 use Rattle.rules.specs.declared.Answered.{Answered}
 use Rattle.rules.specs.declared.Answered.TheVariants as answered
-use Rattle.rules.specs.declared.Outcome.TheVariants.{Unchanged}
 use Rattle.rules.specs.declared.Refusal.{Refusal}
 use Rattle.rules.specs.declared.Refusal.TheVariants.{BadId, BadPath, LowNumber, OtherParent, OtherContent, DocumentsFull, RevisionsFull, SequenceSpent}
 use Rattle.rules.specs.declared.Refusal.TheVariants.{NotAParent, AlreadyKnown, LastNumber, NoDocument, NoRevision, ShortBuffer, BadAsked}
@@ -20,27 +19,27 @@ use Rattle.rules.specs.declared.Refusal.TheVariants.{NotJson, BadMember, OtherRe
 use Rattle.rules.specs.declared.Written.{Written}
 use Rattle.rules.specs.declared.Written.TheVariants as written
 use Rattle.rules.specs.Answer.{Numbered, accepted, written_number, answered_number}
-use Rattle.rules.specs.Choice.{pick, maybe, first_that}
+use Rattle.rules.specs.Choice.{maybe, first_that}
 use Rattle.rules.specs.Pull.{offer}
 use Rattle.rules.specs.Read.{LeafOf, leaves, front, short_buffer, reads, lend}
 use Rattle.rules.specs.Refusal.{refusal_number}
-use Rattle.rules.specs.Replica.{Id, Tree, Replica, IsTree, fresh, tree_of}
+use Rattle.rules.specs.Replica.{Id, Tree, Replica, IsTree, tree_of}
 use Rattle.rules.specs.Union.{In, held, IsUnion, SameButSeq}
 use Rattle.rules.specs.Union as union
-use Rattle.rules.specs.Write.{Write, write}
+use Rattle.rules.specs.Write.{write}
 use Rattle.json_text.specs.Members.{line_of}
 use Rattle.json_text.specs.Rfc.{line}
 use Rattle.lines.specs.Put.{leaf_line, lines_text, put_refusals, put_out, put_out_size}
-use Rattle.lines.specs.Take.{Members, Holds, unwritable, take_in, TakesIn}
+use Rattle.lines.specs.Take.{Members, unwritable, take_in, TakesIn}
 use Rattle.lines.specs.Unknown.{ours}
 use Rattle.lines.specs.Whole.{lines_in, AllWritable, TakesAll}
 use Rattle.lines.proofs.RoundTrip as trip
 use Rattle.lines.proofs.TakesLaws.{take-keeps}
 use Rattle.lines.proofs.Unknown as unknown
 use Rattle.lines.proofs.Whole as whole
-use Rattle.reads.proofs.AnswerLaws.{first_past, first_some}
+use Rattle.reads.proofs.AnswerLaws.{first_past}
 use Rattle.store.specs.Storage.{stored, replica_of, IsStored}
-use Rattle.refile.specs.Boundary.{lent_house, take_in_call, put_out_call, put_out_size_call}
+use Rattle.refile.specs.Boundary.{take_in_call, put_out_call, put_out_size_call}
 use Rattle.refile.specs.Decode.{refusal_in, value_in, decode}
 use Rattle.refile.proofs.FairLaws.{told_does}
 use Rattle.refile.proofs.Keeps.{replica_past}
@@ -48,7 +47,7 @@ use Rattle.refile.proofs.NumberLaws.{no_refusal}
 use Rattle.demands.specs.Calls as C
 use Rattle.demands.specs.Calls.{IsAccepted, Called}
 use Rattle.demands.specs.Runs.{TakeCalls, EachResult}
-use Rattle.demands.proofs.CallLaws.{Holding, holding, counted, fresh_does, lent_one}
+use Rattle.demands.proofs.CallLaws.{Holding, holding, fresh_does, lent_one}
 use Rattle.demands.proofs.Results.{take_in_tells, take_in_holds, put_out_tells, put_out_lent, put_out_size_tells, put_out_size_lent}
 
 -- ---- one line taken in

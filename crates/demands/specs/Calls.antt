@@ -16,7 +16,7 @@ use Rattle.rules.specs.Union.{IsWrite}
 use Rattle.rules.specs.Write.{Write}
 use Rattle.union.specs.Said.{IsEdit}
 use Rattle.store.specs.Storage.{IsStored}
-use Rattle.lines.specs.Take.{Members, Holds}
+use Rattle.lines.specs.Take.{Members}
 use Rattle.refile.specs.Boundary.{refused_from, CCall, Lent, fresh_call, load_call, save_call, write_call, take_in_call, edit_call, pull_call}
 use Rattle.refile.specs.Boundary.{winner_call, leaves_call, path_call, missing_call, put_out_call, put_out_size_call, changes_call, sequence_call, counts_call, report_call}
 use Rattle.refile.specs.Decode.{refusal_in, Told}

@@ -6,7 +6,7 @@ use Prim.Native.Nat.{ℕ, suc, ◌+◌, ◌-◌, ◌≤◌}
 use native.Mathlib.Omega.{arith}
 use lib.Dec.{eqb}
 use lib.ListN.{length, get_or, take, drop, length-take, length-drop}
-use lib.Seq.{take-take, take_all, take-suc, get_or-drop}
+use lib.Seq.{take_all, take-suc, get_or-drop}
 use borrow.Author.Tests.{eqb-true, eq-eqb}
 use Rattle.rules.specs.Bytes.{part, all_zero}
 use Rattle.rules.specs.Faults.{not_above}

@@ -3,7 +3,7 @@ use mathlib.Core.Path.{◌≡◌, refl, sym, ap, ap₂, ◌∙◌}
 use mathlib.Core.Bool.{Bool, true, false, not, ◌||◌, ◌&&◌}
 use mathlib.Core.List.{List, [], ◌∷◌, map}
 use mathlib.Core.Option.{Option, none, some}
-use Prim.Native.Nat.{ℕ, zero, suc, ◌+◌, ◌-◌, ◌*◌, ◌≤◌, ◌<◌}
+use Prim.Native.Nat.{ℕ, suc, ◌+◌, ◌-◌, ◌*◌, ◌≤◌, ◌<◌}
 use native.Mathlib.Nat.{add-zero, add-suc}
 use native.Mathlib.Numerals.{add-one}
 use native.Mathlib.Omega.{arith}
@@ -13,12 +13,10 @@ use borrow.Author.Tests.{le-ltb, eq-eqb, ne_eqb}
 use Rattle.rules.specs.declared.Revision.{Revision}
 use Rattle.rules.specs.Bytes.{part, pieces, all_zero}
 use Rattle.rules.specs.declared.Order.{Order}
-use Rattle.rules.specs.Room.{hash_size}
 use Rattle.rules.specs.Faults.{first_true, bad_row, bad_rows, row_not_above}
 use Rattle.rules.specs.Layout.{Row, row_of, row_size}
 use Rattle.rules.specs.Order.{order_rev, is_less}
 use Rattle.rules.specs.Replica.{revision}
-use Rattle.rules.proofs.ByteLaws.{part-part}
 use Rattle.images.proofs.Tests.{true≢false, or_none, or_left, or_right, none7}
 use Rattle.tree.specs.Rows.{meaning, row_from, node_held, node_at, rev_at}
 use Rattle.tree.proofs.RowLaws.{rev_less}

@@ -1,5 +1,5 @@
 -- The grammar of JSON (RFC 8259), production by production, up to the values that hold no others.
-use Rattle.std.specs.Prelude.{◌≡◌, List, [], ◌∷◌, ◌⊎◌, ℕ, zero, suc, ◌≤◌}
+use Rattle.std.specs.Prelude.{◌≡◌, List, ◌∷◌, ◌⊎◌, ℕ, ◌≤◌}
 
 -- A rule of the grammar. P a b: the bytes a are a text of the rule P and then b. No rule looks at b
 -- (`json:BlindLaws.line_blind`), so that P tells which bytes are a text of it.

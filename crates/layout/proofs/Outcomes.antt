@@ -1,6 +1,5 @@
 -- Each public function has one outcome. Assumes nothing.
 use mathlib.Core.Path.{refl, ap}
-use Prim.Native.Nat.{ℕ}
 use Rattle.rules.specs.declared.RevNumber.{RevNumber}
 use Rattle.rules.specs.declared.Seq.{Seq}
 use Rattle.rules.specs.Outcome.{OneOutcome, OneOutcomeBy, nothing}

@@ -1,11 +1,9 @@
 -- Readings of 41 to 43 and of what is put out: members with the number that taking them into a fresh replica gives. Assumes nothing.
 use mathlib.Core.Path.{◌≡◌, refl}
-use mathlib.Core.List.{List, [], ◌∷◌, ◌++◌, map}
-use mathlib.Core.Option.{Option, none, some}
-use mathlib.Core.Bool.{Bool, true, false, not}
+use mathlib.Core.List.{List, [], ◌∷◌, map}
+use mathlib.Core.Option.{some}
 use Prim.Native.Nat.{ℕ}
 use Prim.Native.String.{String}
-use Rattle.rules.specs.declared.Content.{Content}
 use Rattle.rules.specs.declared.Content.TheVariants.{Live, Deleted}
 use Rattle.rules.specs.Bytes.{be, join, pieces}
 use Rattle.rules.specs.Choice.{any, how_many, first_that}
@@ -21,7 +19,7 @@ use Rattle.rules.specs.Examples.{lot, on}
 use Rattle.json_text.specs.Members.{Form, plain, object, array, Json}
 use Rattle.lines.specs.Said.{each, all, quoted, but_last, unquote, of_string, of_plain, is_name, named, is_digit, decimal_from, decimal_value, spare_zero, read_number, is_hex_digit, hex_digit_value, hex_value, read_hash, before_dash, after_dash, read_rev}
 use Rattle.lines.specs.Take.{Members, read_ids, read_revisions, optional, read_true, read_label, read_content, read_line, other_revisions, is_writable, unwritable, as_write, line_refusals, take_in}
-use Rattle.lines.specs.Put.{member_text, and_more, listed, ids_text, revisions_text, content_text, leaf_line, lines_text, put_refusals, put_out, put_out_size}
+use Rattle.lines.specs.Put.{member_text, and_more, listed, ids_text, revisions_text, leaf_line, lines_text, put_refusals, put_out, put_out_size}
 
 abbrev string : {A : Type 0} → String → Form A
 string t = plain (quoted (text t))

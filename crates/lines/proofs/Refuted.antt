@@ -2,7 +2,7 @@
 use mathlib.Core.Path.{◌≡◌, refl, sym, ◌∙◌}
 use mathlib.Core.List.{List, []}
 use mathlib.Core.Logic.{◌⊎◌, inl, inr}
-use Prim.Native.Nat.{ℕ, zero, suc, ◌+◌, ◌-◌, ◌≤◌, ◌<◌}
+use Prim.Native.Nat.{ℕ, zero, suc, ◌+◌, ◌≤◌, ◌<◌}
 use native.Mathlib.Omega.{arith}
 use native.Mathlib.Numerals.{sub-one}
 use lib.ListN.{length, get_or, drop}
@@ -13,7 +13,7 @@ use Rattle.json_text.specs.Grammar.{◌then◌, option, ws, string, int, frac, e
 use Rattle.json_text.specs.Rfc as rfc
 use Rattle.json_text.specs.Skips.{WsTo, EndsAt, NoText, Not}
 use Rattle.json_text.specs.declared.Skip.TheVariants.{Wrong}
-use Rattle.json_text.specs.Tight.{begin_array, end_array, begin_object, end_object, array, member, object, value, line}
+use Rattle.json_text.specs.Tight.{begin_array, end_array, begin_object, end_object, array, member, object, value}
 use Rattle.json_text.proofs.WsLaws.{white_no, stands}
 use Rattle.json_text.proofs.ListLaws.{Dark, Listed, closes_array, closes_object, list_none, list_first, list_no_item}
 use Rattle.json_text.proofs.NumberLaws.{digit_yes, end_nodigit, frac_none, int_zero, number_plain}

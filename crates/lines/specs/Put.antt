@@ -6,13 +6,12 @@ use Rattle.rules.specs.declared.Content.{Content}
 use Rattle.rules.specs.declared.Content.TheVariants.{Live, Deleted}
 use Rattle.rules.specs.declared.Refusal.{Refusal}
 use Rattle.rules.specs.declared.Refusal.TheVariants.{UnwritableId}
-use Rattle.rules.specs.declared.Revision.{Revision}
 use Rattle.rules.specs.Bytes.{join}
 use Rattle.rules.specs.Choice.{maybe, first_that}
 use Rattle.rules.specs.Read.{LeafOf, leaves, path_of, document_refusals, reads}
 use Rattle.rules.specs.Replica.{Id, Hash, Tree, Replica, tree_of}
 use Rattle.rules.specs.Report.{decimal, hex, text, rev_text, newline}
-use Rattle.lines.specs.Said.{quote, quoted}
+use Rattle.lines.specs.Said.{quoted}
 use Rattle.lines.specs.Take.{unwritable}
 
 -- ---- the line of a leaf

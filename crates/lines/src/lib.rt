@@ -2,4 +2,3 @@
 // values and has no code: specs/ has which text is which write and what is put out, and proofs/ the
 // theorems.
 #![tactic(auto)]
-

@@ -1,15 +1,14 @@
 -- How long the lines of a document can be. Assumes nothing.
-use mathlib.Core.Path.{◌≡◌, refl, sym}
+use mathlib.Core.Path.{◌≡◌, refl}
 use mathlib.Core.List.{List, [], ◌∷◌, map}
 use mathlib.Core.Logic.{inl, inr}
 use mathlib.Core.Option.{Option, none, some}
-use Prim.Native.Nat.{ℕ, ◌+◌, ◌*◌, ◌<◌, ◌≤◌}
+use Prim.Native.Nat.{◌*◌, ◌<◌, ◌≤◌}
 use native.Mathlib.Omega.{arith}
 use lib.ListN.{length, length-append}
 use Rattle.rules.specs.Bytes.{join}
 use Rattle.rules.specs.Read.{LeafOf, leaves}
 use Rattle.rules.specs.Replica.{Id, Tree, Document, Replica, IsReplica, document_of, tree_in, tree_of}
-use Rattle.rules.specs.Room.{revisions_most}
 use Rattle.rules.specs.Union.{In}
 use Rattle.rules.proofs.OrderLaws.{bytes_order}
 use Rattle.union.proofs.Count.{find_in}

@@ -3,7 +3,7 @@ use mathlib.Core.Path.{◌≡◌, refl, sym, ap, ◌∙◌}
 use mathlib.Core.Bool.{Bool}
 use mathlib.Core.List.{List, []}
 use mathlib.Core.Option.{Option, none, some}
-use Prim.Native.Nat.{ℕ, zero, suc, ◌<◌}
+use Prim.Native.Nat.{ℕ, zero, suc}
 use native.Mathlib.Omega.{arith}
 use lib.ListN.{length}
 use Rattle.rules.specs.declared.Answered.{Answered}
@@ -17,13 +17,13 @@ use Rattle.rules.specs.Choice.{maybe, first_that}
 use Rattle.rules.specs.Replica.{Id, Replica, tree_of}
 use Rattle.rules.specs.Write.{settle, write}
 use Rattle.lines.specs.Put.{lines_text, put_refusals, put_out, put_out_size}
-use Rattle.lines.specs.Take.{Members, Holds, Line, read_line, as_write, line_refusals, take_in}
+use Rattle.lines.specs.Take.{Members, Line, read_line, as_write, line_refusals, take_in}
 use Rattle.lines.proofs.TakesLaws.{holds_one}
 use Rattle.store.specs.Storage.{stored, replica_of, IsStored}
 use Rattle.takes.specs.Took.{Took}
 use Rattle.reads.proofs.AnswerLaws.{first_some}
 use Rattle.puts.proofs.SizeLaws.{lines_most}
-use Rattle.refile.specs.Boundary.{refused_from, result_number, first_house, Calls, Keeps, House, Lent, lent_house, TakesCall, take_in_call, put_out_call, put_out_size_call}
+use Rattle.refile.specs.Boundary.{result_number, first_house, Calls, House, Lent, lent_house, TakesCall, take_in_call, put_out_call, put_out_size_call}
 use Rattle.refile.proofs.CallLaws.{none_first, no_house, first_both, stops, lent_stands, keeps, accepts, keeps_one, lent_refuses, lent_does}
 use Rattle.refile.proofs.FairLaws.{Fair, FairCall, lent_numbers, rules_fair, accepted_fair, write_as}
 use Rattle.refile.proofs.ReadCallLaws.{Reads}

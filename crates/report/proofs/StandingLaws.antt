@@ -10,7 +10,7 @@ use Rattle.rules.specs.declared.Revision.{Revision}
 use Rattle.rules.specs.declared.Seq.{Seq}
 use Rattle.rules.specs.Bytes.{join}
 use Rattle.rules.specs.Map.{Map}
-use Rattle.rules.specs.Read.{leaves, winner, conflicts}
+use Rattle.rules.specs.Read.{leaves, conflicts}
 use Rattle.rules.specs.Replica.{Id, Tree, Document, Replica, IsTree}
 use Rattle.rules.specs.Report.{decimal, hex, text, line_of, rev_text, line_text, head_text, replica_text, own_word, winner_word}
 use Rattle.rules.specs.Room.{id_most}

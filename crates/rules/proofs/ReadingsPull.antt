@@ -4,7 +4,6 @@ use mathlib.Core.List.{List, [], ◌∷◌, ◌++◌, map}
 use mathlib.Core.Option.{none, some}
 use Prim.Native.Nat.{ℕ}
 use lib.ListN.{replicate}
-use Rattle.rules.specs.declared.Changes.TheVariants as changed
 use Rattle.rules.specs.declared.Content.TheVariants.{Live}
 use Rattle.rules.specs.declared.Counts.{Counts}
 use Rattle.rules.specs.Bytes.{pieces, join}

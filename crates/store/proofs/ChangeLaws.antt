@@ -2,8 +2,8 @@
 use mathlib.Core.Path.{◌≡◌, refl, sym, ap, ◌∙◌}
 use Prim.Native.Nat.{ℕ, zero, suc, ◌+◌, ◌*◌, ◌<◌, ◌≤◌, ◌-◌}
 use native.Mathlib.Omega.{arith}
-use mathlib.Core.List.{List, [], ◌∷◌, ◌++◌, map, append_assoc}
-use lib.ListN.{length, get_or, replicate, set, length-append, length-replicate, replicate-append-replicate}
+use mathlib.Core.List.{List, [], ◌∷◌, ◌++◌, map}
+use lib.ListN.{length, get_or, replicate, length-replicate}
 use Rattle.rules.specs.declared.Seq.{Seq}
 use Rattle.rules.specs.Bytes.{be, part, join}
 use Rattle.rules.specs.Layout.{documents_at, revisions_at, sequence_at, head_size, own_in, entry_size}
@@ -12,7 +12,7 @@ use Rattle.rules.specs.Replica.{Id, Document, Replica, fresh, revisions_held}
 use Rattle.rules.specs.Room.{documents_most, id_most, seq_most}
 use Rattle.rules.proofs.ByteLaws.{length-be}
 use Rattle.octets.specs.Splice.{splice}
-use Rattle.octets.proofs.SpliceLaws.{replace, splice_whole}
+use Rattle.octets.proofs.SpliceLaws.{splice_whole}
 use Rattle.layout.specs.Fields.{entry_place}
 use Rattle.store.specs.Storage.{contents_room, rows_room, store_size, filled, stored_head, stored_entry, stored_entries, rows_in, stored_rows, stored, replica_of, All, FitsDocument, Storable}
 use Rattle.store.specs.Documents.{documents_of, no_document, document_at, HasDocument}

@@ -1,17 +1,16 @@
 -- What is read at a document's entry. Assumes nothing.
-use mathlib.Core.Path.{◌≡◌, refl, sym, ap, ◌∙◌}
-use Prim.Native.Nat.{ℕ, zero, suc, ◌+◌, ◌*◌, ◌<◌, ◌≤◌, ◌-◌}
-use native.Mathlib.Nat.{add-zero, not-suc-le-zero, le_of_suc-le-suc}
+use mathlib.Core.Path.{◌≡◌, sym, ap, ◌∙◌}
+use Prim.Native.Nat.{ℕ, zero, suc, ◌+◌, ◌*◌, ◌<◌, ◌≤◌}
+use native.Mathlib.Nat.{not-suc-le-zero, le_of_suc-le-suc}
 use native.Mathlib.Numerals.{add-one}
 use native.Mathlib.Omega.{arith}
 use mathlib.Core.List.{List, [], ◌∷◌, map, append_assoc}
-use lib.ListN.{length, take, drop, get_or, get_or-map}
-use lib.Seq.{take_at, get_or-drop, get_or-take}
-use Rattle.rules.specs.Bytes.{value, part, join}
+use lib.ListN.{length, get_or, get_or-map}
+use Rattle.rules.specs.Bytes.{part, join}
 use Rattle.rules.specs.Layout.{head_size, entry_size, head_of, entry_of}
 use Rattle.rules.specs.Map.{Map}
 use Rattle.rules.specs.Replica.{Id, Document, Replica, revisions_held}
-use Rattle.rules.specs.Room.{documents_most, revisions_most, id_most, seq_most}
+use Rattle.rules.specs.Room.{documents_most, revisions_most, seq_most}
 use Rattle.layout.specs.Fields.{entry_place}
 use Rattle.store.specs.Storage.{rows_room, store_size, filled, stored_head, stored_entry, stored_entries, stored_rows, stored, replica_of, All, FitsDocument, Storable, Laid}
 use Rattle.store.specs.Documents.{documents_of, no_document, document_at, first_row, HasDocument}

@@ -2,12 +2,11 @@
 use mathlib.Core.Path.{◌≡◌, refl, sym, ap, ◌∙◌}
 use mathlib.Core.Bool.{true, false}
 use mathlib.Core.Option.{some}
-use Prim.Native.Nat.{ℕ, pred, ◌+◌, ◌*◌, ◌<◌}
+use Prim.Native.Nat.{ℕ, pred, ◌+◌, ◌<◌}
 use native.Mathlib.Omega.{arith}
 use mathlib.Core.List.{List}
 use lib.ListN.{get_or, set, length-set}
 use Rattle.rules.specs.declared.Revision.{Revision}
-use Rattle.rules.specs.Layout.{row_size}
 use Rattle.rules.specs.Map.{alter}
 use Rattle.rules.specs.Order.{order_rev}
 use Rattle.rules.specs.Replica.{revision, Node, Tree}

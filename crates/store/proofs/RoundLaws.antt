@@ -10,7 +10,7 @@ use Rattle.rules.specs.Image.{entry_bytes}
 use Rattle.rules.specs.Layout.{Entry, id_in, entry_zero_in, count_in, own_in, entry_size, entry_of}
 use Rattle.rules.specs.Replica.{Id, Document}
 use Rattle.rules.specs.Room.{revisions_most, id_most, seq_most}
-use Rattle.rules.proofs.ByteLaws.{length-be, part-past, part-front}
+use Rattle.rules.proofs.ByteLaws.{length-be, part-past}
 use Rattle.octets.specs.Splice.{splice}
 use Rattle.octets.proofs.SpliceLaws.{replace}
 use Rattle.store.specs.Storage.{stored_entry}

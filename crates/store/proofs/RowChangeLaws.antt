@@ -7,7 +7,7 @@ use mathlib.Core.List.{List, [], ◌∷◌, ◌++◌, map, append_assoc, append-
 use lib.ListN.{length, take, drop, get_or, set, length-append, length-set}
 use lib.Seq.{set-append_left, take-append-le, drop-append-le}
 use Rattle.rules.specs.declared.Revision.{Revision}
-use Rattle.rules.specs.Bytes.{be, part, join}
+use Rattle.rules.specs.Bytes.{be, join}
 use Rattle.rules.specs.Layout.{revisions_at, count_in, row_size}
 use Rattle.rules.specs.Map.{Map}
 use Rattle.rules.specs.Replica.{Id, Node, Tree, Document, Replica, revisions_held}

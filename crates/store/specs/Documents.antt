@@ -1,5 +1,5 @@
 -- The documents in a buffer, by their index, and what a caller shows to name one.
-use Rattle.std.specs.Prelude.{◌≡◌, List, [], ℕ, ◌+◌, ◌*◌, ◌<◌, ◌≤◌, length, get_or, take}
+use Rattle.std.specs.Prelude.{◌≡◌, List, [], ℕ, ◌+◌, ◌*◌, ◌<◌, length, get_or, take}
 use Rattle.rules.specs.Layout.{row_size}
 use Rattle.rules.specs.Map.{Map}
 use Rattle.rules.specs.Order.{order_bytes}

@@ -1,6 +1,6 @@
 -- A hash as a string: where its bytes say that one stands, and where they don't. Assumes nothing.
-use mathlib.Core.Bool.{Bool, true, false, not, ◌&&◌}
-use mathlib.Core.List.{List, [], ◌∷◌, ◌++◌}
+use mathlib.Core.Bool.{Bool, true, false, ◌&&◌}
+use mathlib.Core.List.{List, [], ◌∷◌}
 use mathlib.Core.Logic.{◌⊎◌, inl, inr}
 use mathlib.Core.Option.{Option, none, some}
 use mathlib.Core.Path.{◌≡◌, refl, sym, ap, ◌∙◌, subst}
@@ -10,12 +10,9 @@ use borrow.Author.Tests.{eq-eqb, ne_eqb, le-leb, lt-leb, eqb-true, eqb-false, le
 use lib.Dec.{eqb, leb}
 use lib.ListN.{length, take, drop, get_or, length-append, length-take, length-drop}
 use lib.Seq.{drop-drop, drop_at}
-use Rattle.rules.specs.Choice.{pick, maybe}
+use Rattle.rules.specs.Choice.{pick}
 use Rattle.rules.specs.Replica.{Hash}
-use Rattle.rules.specs.Room.{hash_size}
-use Rattle.rules.specs.Write.{is_none}
-use Rattle.octets.specs.Splice.{splice}
-use Rattle.json_text.specs.Members.{Form, plain, Json, value_of}
+use Rattle.json_text.specs.Members.{plain, Json, value_of}
 use Rattle.json_text.specs.Grammar.{string}
 use Rattle.json_text.specs.Skips.{OnlyAt}
 use Rattle.values.specs.Reading.{ItemAt}

@@ -12,22 +12,21 @@ use Rattle.rules.specs.Room.{hash_size, hashes_most}
 use Rattle.rules.specs.Write.{is_none}
 use Rattle.octets.specs.Splice.{splice}
 use Rattle.json_text.specs.Grammar.{◌then◌}
-use Rattle.json_text.specs.Members.{Form, Json, array_of, value_of}
+use Rattle.json_text.specs.Members.{Json, array_of, value_of}
 use Rattle.values.specs.declared.Opened.{Opened}
 use Rattle.values.specs.declared.Opened.TheVariants as opened
 use Rattle.values.specs.declared.After.{After}
 use Rattle.values.specs.declared.After.TheVariants as after
-use Rattle.values.specs.Places.{ClosedAt, FirstAt, Opens, MoreAt, NeitherAt, Follows}
-use Rattle.values.specs.Reading.{ItemAt, Onward, Leads, ListAt, NoList}
+use Rattle.values.specs.Places.{ClosedAt, FirstAt, Opens, MoreAt, Follows}
+use Rattle.values.specs.Reading.{Onward, Leads, NoList}
 use Rattle.values.proofs.ReadingLaws.{arrays}
 use Rattle.values.proofs.ItemLaws.{walk_none, walk_first, walk_more, walk_last, walk_wrong}
 use Rattle.lines.specs.Said.{both, each, of_string, read_hash}
 use Rattle.lines.proofs.SaidLaws.{hash_size_lem}
-use Rattle.takes.specs.declared.Ids.{Ids}
 use Rattle.takes.specs.declared.Ids.TheVariants as ids
-use Rattle.takes.specs.Path.{laid_room, hash_in, HashLaid, Laid, IdsSay, IdsAt, IdsRead}
+use Rattle.takes.specs.Path.{laid_room, hash_in, HashLaid, Laid, IdsAt, IdsRead}
 use Rattle.takes.proofs.LaidLaws.{laid_none, laid_more}
-use Rattle.takes.proofs.HashLaws.{HashParts, hash_parts, HashItem, hash_item, no_hash}
+use Rattle.takes.proofs.HashLaws.{hash_parts, HashItem, hash_item, no_hash}
 
 -- ---- what f gives for each
 

@@ -3,25 +3,24 @@ use mathlib.Core.Bool.{Bool, true, false, not, ◌||◌}
 use mathlib.Core.List.{List, [], ◌∷◌, ◌++◌, append-nil, append_assoc}
 use mathlib.Core.Logic.{◌⊎◌, inl, inr}
 use mathlib.Core.Option.{Option, none, some}
-use mathlib.Core.Path.{◌≡◌, refl, sym, ap, ◌∙◌, subst}
-use Prim.Native.Nat.{ℕ, zero, suc, ◌+◌, ◌*◌, ◌-◌, ◌/◌, ◌%◌, ◌≤◌, ◌<◌, min}
+use mathlib.Core.Path.{◌≡◌, refl, sym, ap, ◌∙◌}
+use Prim.Native.Nat.{ℕ, zero, suc, ◌+◌, ◌*◌, ◌/◌, ◌%◌, ◌≤◌, ◌<◌, min}
 use native.Mathlib.Omega.{arith}
 use borrow.Author.Tests.{lt-ltb}
-use lib.Dec.{eqb, ltb}
-use lib.ListN.{length, take, drop, length-append, length-take}
-use lib.Seq.{length-take-le, take-append-le, take-append-add, take-take}
+use lib.Dec.{eqb}
+use lib.ListN.{length, take, drop, length-append}
+use lib.Seq.{length-take-le, take-append-le, take-take}
 use Rattle.json_text.proofs.WsLaws.{lt_or_ge}
 use Rattle.rules.specs.declared.Content.{Content}
 use Rattle.rules.specs.declared.Refusal.TheVariants.{BadId, BadPath}
 use Rattle.rules.specs.declared.RevNumber.{RevNumber}
-use Rattle.rules.specs.declared.Written.{Written}
 use Rattle.rules.specs.declared.Written.TheVariants.{Refused}
-use Rattle.rules.specs.Bytes.{join, pieces}
+use Rattle.rules.specs.Bytes.{join}
 use Rattle.rules.specs.Choice.{pick, first_that}
 use Rattle.rules.specs.Read.{first_of}
 use Rattle.rules.specs.Replica.{Id, Hash, Replica}
 use Rattle.rules.specs.Room.{hash_size, hashes_most}
-use Rattle.rules.specs.Write.{Write, hashes, bad_id, bad_path, write_refusals, write}
+use Rattle.rules.specs.Write.{hashes, bad_id, bad_path, write_refusals, write}
 use Rattle.rules.proofs.ByteLaws.{Sized, length-join, join_append, length-pieces}
 use Rattle.octets.specs.Splice.{splice}
 use Rattle.octets.proofs.SpliceLaws.{length-splice}

@@ -1,10 +1,10 @@
 -- Laws of `_revisions` read while it is passed over. Assumes nothing.
-use mathlib.Core.Bool.{Bool, true, false, not, ◌||◌}
-use mathlib.Core.List.{List, [], ◌∷◌}
+use mathlib.Core.Bool.{Bool, true, false}
+use mathlib.Core.List.{List}
 use mathlib.Core.Logic.{◌⊎◌, inl, inr}
 use mathlib.Core.Option.{Option, none, some}
 use mathlib.Core.Path.{◌≡◌, refl, sym, ap, ◌∙◌, subst}
-use Prim.Native.Nat.{ℕ, suc, ◌+◌, ◌*◌, ◌-◌, ◌≤◌, ◌<◌}
+use Prim.Native.Nat.{ℕ, suc, ◌+◌, ◌-◌, ◌≤◌, ◌<◌}
 use native.Mathlib.Omega.{arith}
 use borrow.Author.Tests.{eq-eqb, ne_eqb, eqb-true, eqb-false}
 use lib.Dec.{eqb}
@@ -16,14 +16,14 @@ use Rattle.json_text.specs.declared.Skip.{Skip}
 use Rattle.json_text.specs.declared.Skip.TheVariants.{To, Wrong}
 use Rattle.json_text.specs.Tight.{value, array, object}
 use Rattle.json_text.specs.Members.{Form, plain, Json, object_of, array_of, value_of}
-use Rattle.json_text.specs.Skips.{Ends, EndsAt, WholeAt, NoText, Placed, Whether}
+use Rattle.json_text.specs.Skips.{Ends, EndsAt, NoText, Placed, Whether}
 use Rattle.json_text.proofs.WsLaws.{at_byte, byte_at}
 use Rattle.json_text.proofs.CharLaws.{exact_skips}
 use Rattle.values.specs.Reading.{ListAt, NoList}
 use Rattle.values.proofs.ValueLaws.{skips_array, skips_object, value_object}
 use Rattle.values.proofs.ItemLaws.{object_text, array_text, no_object_text}
 use Rattle.values.proofs.FirstLaws.{object_at, array_at}
-use Rattle.lines.specs.Said.{both, each, once, of_string, of_plain, named, read_number, read_hash}
+use Rattle.lines.specs.Said.{both, once, of_plain, named, read_number}
 use Rattle.lines.specs.Take.{Revisions, read_ids, read_revisions}
 use Rattle.takes.specs.declared.Spot.{Spot}
 use Rattle.takes.specs.declared.Spot.TheVariants.{Absent, Once, Repeated}
@@ -38,7 +38,6 @@ use Rattle.takes.specs.declared.RevsValue.{RevsValue}
 use Rattle.takes.specs.Spots.{ValueAt, SpotIs, Fits, plain_in, part_text, seen_at, see_at, no_spots}
 use Rattle.takes.specs.declared.InnerWalk.{InnerWalk}
 use Rattle.takes.specs.declared.InnerWalk.TheVariants as inner
-use Rattle.takes.specs.declared.OuterWalk.{OuterWalk}
 use Rattle.takes.specs.declared.OuterWalk.TheVariants as outer
 use Rattle.takes.specs.declared.Name.{Name}
 use Rattle.takes.specs.declared.Name.TheVariants as name
@@ -50,11 +49,11 @@ use Rattle.values.specs.Places.{Opens, Follows, MemberAt}
 use Rattle.fields.specs.declared.NumberSaid.{NumberSaid}
 use Rattle.fields.specs.declared.NumberSaid.TheVariants as number
 use Rattle.fields.specs.Fields.{name_at, number_said}
-use Rattle.takes.specs.Walk.{NameAt, Names, Passes}
+use Rattle.takes.specs.Walk.{NameAt, Names}
 use Rattle.takes.proofs.WalkLaws.{Walking, walked_empty, walk_starts, no_name_here, no_value_here, a_member, rises, walk_falls, walks_on, walks_last, walks_wrong}
-use Rattle.takes.specs.Path.{laid_room, Laid, IdsSay, IdsAt, IdsRead}
-use Rattle.takes.specs.Read.{IdsKept, IdsPassed, IdsValued, InnerIs, InnerCase, InnerWalks, OuterIs, OuterWalks, RevsPassed, ids_in, revs_in, RevsSay, RevsAt, RevsKept, RevsValued}
-use Rattle.takes.proofs.ValueLaws.{object_brace, array_bracket}
+use Rattle.takes.specs.Path.{laid_room, IdsSay, IdsAt, IdsRead}
+use Rattle.takes.specs.Read.{IdsKept, IdsPassed, IdsValued, InnerIs, InnerCase, InnerWalks, OuterWalks, RevsPassed, ids_in, revs_in, RevsSay, RevsAt, RevsKept, RevsValued}
+use Rattle.takes.proofs.ValueLaws.{array_bracket}
 use Rattle.takes.proofs.SayLaws.{said_plain, spot_fits, number_none, number_brace, number_bracket}
 
 -- ---- a list that is read ends where the value does

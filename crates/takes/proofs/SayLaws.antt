@@ -6,20 +6,18 @@ use mathlib.Core.Option.{Option, none, some}
 use mathlib.Core.Path.{◌≡◌, refl, sym, ap, ◌∙◌}
 use Prim.Native.Nat.{ℕ, suc, ◌+◌, ◌-◌}
 use borrow.Author.Tests.{eq-eqb, ne_eqb, eqb-true, eqb-false}
-use lib.Dec.{eqb, leb}
-use lib.ListN.{length, take, drop, get_or}
-use Rattle.rules.specs.declared.Content.{Content}
+use lib.Dec.{eqb}
+use lib.ListN.{take, drop, get_or}
 use Rattle.rules.specs.declared.Content.TheVariants.{Live, Deleted}
 use Rattle.rules.specs.Choice.{pick, maybe}
 use Rattle.rules.specs.Order.{order_bytes, order_n, is_equal}
 use Rattle.rules.specs.Report.{text}
-use Rattle.json_text.specs.Members.{Form, Json}
-use Rattle.lines.specs.Said.{once, of_string, of_plain, read_number, all, is_digit, is_empty}
+use Rattle.json_text.specs.Members.{Json}
+use Rattle.lines.specs.Said.{once, of_string, of_plain, read_number, all, is_digit}
 use Rattle.lines.specs.Take.{read_true, read_label, read_content}
 use Rattle.takes.specs.declared.Spot.{Spot}
 use Rattle.takes.specs.declared.Spot.TheVariants.{Absent, Once, Repeated}
 use Rattle.takes.specs.declared.Spots.{Spots}
-use Rattle.takes.specs.declared.Part.{Part}
 use Rattle.takes.specs.declared.ContentSaid.{ContentSaid}
 use Rattle.takes.specs.declared.ContentSaid.TheVariants as content
 use Rattle.fields.specs.declared.NumberSaid.{NumberSaid}

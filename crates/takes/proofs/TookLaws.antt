@@ -1,6 +1,6 @@
 -- What a line leaves: refused, or as the write that it is. Assumes nothing.
 use mathlib.Core.Bool.{Bool, true, false}
-use mathlib.Core.List.{List, []}
+use mathlib.Core.List.{List}
 use mathlib.Core.Option.{Option, none, some}
 use mathlib.Core.Path.{◌≡◌, refl, sym, ap, ◌∙◌, subst}
 use Prim.Native.Nat.{ℕ, ◌+◌, ◌*◌, ◌-◌, ◌≤◌, ◌<◌}
@@ -12,19 +12,16 @@ use Rattle.rules.specs.declared.Content.{Content}
 use Rattle.rules.specs.declared.Refusal.{Refusal}
 use Rattle.rules.specs.declared.Refusal.TheVariants.{NotJson, BadMember, OtherRevisions, UnwritableId}
 use Rattle.rules.specs.declared.Revision.{Revision}
-use Rattle.rules.specs.declared.RevNumber.{RevNumber}
 use Rattle.rules.specs.declared.Written.{Written}
 use Rattle.rules.specs.declared.Written.TheVariants.{Refused}
 use Rattle.rules.specs.Bytes.{join}
 use Rattle.rules.specs.Choice.{pick, maybe, first_that}
-use Rattle.rules.specs.Replica.{Id, Hash, Replica}
+use Rattle.rules.specs.Replica.{Id, Replica}
 use Rattle.rules.specs.Room.{hash_size}
 use Rattle.rules.specs.Write.{Write, write}
-use Rattle.store.specs.Storage.{stored, replica_of, IsStored}
-use Rattle.json_text.specs.Members.{Form, Json}
-use Rattle.json_text.specs.Rfc.{line}
+use Rattle.store.specs.Storage.{replica_of, IsStored}
 use Rattle.lines.specs.Said.{once, of_string, named, read_rev}
-use Rattle.lines.specs.Take.{Members, Revisions, Line, Holds, optional, read_revisions, read_content, all_said, read_line, other_revisions, unwritable, path_said, as_write, line_refusals, take_in}
+use Rattle.lines.specs.Take.{Members, Revisions, Line, optional, read_revisions, read_content, all_said, read_line, other_revisions, unwritable, as_write, line_refusals, take_in}
 use Rattle.fields.specs.declared.RevSaid.{RevSaid}
 use Rattle.fields.specs.Fields.{rev_said, RevRead}
 use Rattle.writes.specs.Judge.{Wrote}
@@ -43,11 +40,9 @@ use Rattle.takes.specs.declared.OuterWalk.{OuterWalk}
 use Rattle.takes.specs.declared.OuterWalk.TheVariants as outer
 use Rattle.values.proofs.LineLaws.{no_brace, no_object, line_holds, no_end}
 use Rattle.json_text.specs.Skips.{WsTo}
-use Rattle.takes.specs.declared.Walked.{Walked}
-use Rattle.takes.specs.Spots.{SpotIs, SpotsAre, AllFit, Fits, string_in, part_text, content_in, content_said}
-use Rattle.takes.specs.Walk.{LineIs, Passes}
+use Rattle.takes.specs.Spots.{SpotsAre, AllFit, Fits, string_in, part_text, content_in, content_said}
 use Rattle.takes.specs.Read.{OuterIs, OuterCase, OuterWalks, WholeLine, LineCase, LineWalks}
-use Rattle.takes.specs.Path.{laid_most, laid_room, Laid, PathSays, PathRead, hashes_said}
+use Rattle.takes.specs.Path.{laid_most, laid_room, PathSays, PathRead, hashes_said}
 use Rattle.takes.specs.Took.{Left, written, Stand, CanTake, TakesRest, TakesSpots, Took}
 use Rattle.takes.proofs.SayLaws.{said_string, content_said_lem, all_fit}
 use Rattle.takes.proofs.LaidLaws.{laid_write}

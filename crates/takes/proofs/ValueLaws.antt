@@ -1,17 +1,16 @@
 -- What a value's bytes say of it, at the places where it stands. Assumes nothing.
-use mathlib.Core.Bool.{Bool, true, false}
+use mathlib.Core.Bool.{false}
 use mathlib.Core.List.{List, [], ◌∷◌, ◌++◌}
 use mathlib.Core.Option.{Option, none, some}
 use mathlib.Core.Path.{◌≡◌, refl, sym, ap, ◌∙◌}
-use Prim.Native.Nat.{ℕ, zero, suc, ◌+◌, ◌-◌, ◌≤◌}
+use Prim.Native.Nat.{ℕ, zero, suc, ◌+◌, ◌-◌}
 use native.Mathlib.Omega.{arith}
 use borrow.Author.Tests.{ne_eqb}
 use lib.Dec.{eqb}
-use lib.ListN.{length, take, drop, get_or}
-use Rattle.rules.specs.Choice.{pick, maybe}
-use Rattle.json_text.specs.Grammar.{scalar}
+use lib.ListN.{take, drop, get_or}
+use Rattle.rules.specs.Choice.{maybe}
 use Rattle.json_text.specs.Tight.{value}
-use Rattle.json_text.specs.Members.{Form, plain, Json, spelt, object_of, array_of, form_of, value_of}
+use Rattle.json_text.specs.Members.{Form, plain, Json, spelt, form_of, value_of}
 use Rattle.json_text.proofs.WsLaws.{at_byte, byte_at}
 use Rattle.values.proofs.ValueLaws.{object_first, array_first}
 use Rattle.values.proofs.ReadingLaws.{reads_object, reads_array}

@@ -1,6 +1,6 @@
 -- Laws of a walk over the members of an object. Assumes nothing.
 use mathlib.Core.List.{List, [], ◌∷◌, ◌++◌}
-use mathlib.Core.Path.{◌≡◌, refl, sym, ap, ◌∙◌, subst}
+use mathlib.Core.Path.{◌≡◌, refl, subst}
 use Prim.Native.Nat.{ℕ, ◌+◌, ◌-◌, ◌≤◌, ◌<◌}
 use native.Mathlib.Omega.{arith}
 use lib.ListN.{length, take, drop, get_or}
@@ -8,14 +8,14 @@ use Rattle.json_text.specs.Tight.{value}
 use Rattle.json_text.specs.Members.{Json, member_of, object_of, value_of}
 use Rattle.json_text.specs.declared.Skip.{Skip}
 use Rattle.json_text.specs.declared.Skip.TheVariants.{To, Wrong}
-use Rattle.json_text.specs.Skips.{WsTo, Placed}
+use Rattle.json_text.specs.Skips.{Placed}
 use Rattle.values.specs.declared.Opened.{Opened}
 use Rattle.values.specs.declared.Opened.TheVariants as opened
 use Rattle.values.specs.declared.After.{After}
 use Rattle.values.specs.declared.After.TheVariants as after
 use Rattle.values.specs.declared.Member.{Member}
-use Rattle.values.specs.Places.{ClosedAt, FirstAt, Opens, MoreAt, NeitherAt, Follows, MemberAt}
-use Rattle.values.specs.Reading.{ItemAt, Leads, ListAt, NoList, MemberRead}
+use Rattle.values.specs.Places.{ClosedAt, FirstAt, Opens, MoreAt, Follows, MemberAt}
+use Rattle.values.specs.Reading.{Leads, NoList, MemberRead}
 use Rattle.values.proofs.ReadingLaws.{objects}
 use Rattle.values.proofs.WalkLaws.{leads_no_item}
 use Rattle.values.proofs.ItemLaws.{member_no_item, member_read, walk_none, walk_first, walk_more, walk_last, walk_wrong}
@@ -24,10 +24,9 @@ use Rattle.fields.specs.Fields.{name_at}
 use Rattle.takes.specs.declared.Spots.{Spots}
 use Rattle.takes.specs.declared.Name.{Name}
 use Rattle.takes.specs.declared.Name.TheVariants as name
-use Rattle.takes.specs.declared.Walked.{Walked}
 use Rattle.takes.specs.Spots.{ValueAt, SpotsAre, see_at, no_spots}
 use Rattle.takes.specs.Walk.{NameAt, NoMember, Names, Passes}
-use Rattle.takes.proofs.SpotLaws.{NameIs, name_is, spots_none, spots_more}
+use Rattle.takes.proofs.SpotLaws.{name_is, spots_none, spots_more}
 
 -- the members of done are read, and their spots are p
 pub record Walking (d : ℕ) (s : List ℕ) (at i : ℕ) (p : Spots) : Type 0 where

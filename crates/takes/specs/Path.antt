@@ -10,16 +10,16 @@ use Rattle.rules.specs.Replica.{Hash}
 use Rattle.rules.specs.Room.{hash_size, hashes_most}
 use Rattle.rules.specs.Write.{is_none}
 use Rattle.octets.specs.Splice.{splice}
-use Rattle.json_text.specs.Members.{Form, Json, array_of, value_of}
+use Rattle.json_text.specs.Members.{Json, array_of, value_of}
 use Rattle.values.specs.Reading.{ListAt}
-use Rattle.lines.specs.Said.{each, once, of_string, read_hash, quote}
-use Rattle.lines.specs.Take.{Revisions, read_ids, read_revisions, optional, other_revisions}
+use Rattle.lines.specs.Said.{each, of_string, read_hash, quote}
+use Rattle.lines.specs.Take.{Revisions, read_revisions, optional, other_revisions}
 use Rattle.takes.specs.declared.Spot.{Spot}
 use Rattle.takes.specs.declared.Ids.{Ids}
 use Rattle.takes.specs.declared.Ids.TheVariants as ids
 use Rattle.takes.specs.declared.PathSaid.{PathSaid}
 use Rattle.takes.specs.declared.PathSaid.TheVariants as said
-use Rattle.takes.specs.Spots.{SpotIs, SpotsAre}
+use Rattle.takes.specs.Spots.{SpotIs}
 
 -- one hash more than a path may have, so that a longer path is refused by the write itself
 abbrev pub laid_most : ℕ

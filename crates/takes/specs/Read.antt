@@ -1,5 +1,5 @@
 -- `_revisions` read while it is passed over: what was read stays with the spot.
-use Rattle.std.specs.Prelude.{List, [], ◌∷◌, ◌≡◌, ℕ, suc, eqb, length, drop, get_or}
+use Rattle.std.specs.Prelude.{List, [], ◌≡◌, ℕ, suc, eqb, length, drop, get_or}
 use Rattle.std.proofs.Math.Option.{Option, none, some}
 use Rattle.rules.specs.Choice.{pick, maybe}
 use Rattle.rules.specs.Replica.{Hash}

@@ -1,7 +1,6 @@
 -- What taking a line in promises.
-use Rattle.std.specs.Prelude.{Bool, List, ◌≡◌, ℕ, length}
+use Rattle.std.specs.Prelude.{List, ◌≡◌, ℕ, length}
 use Rattle.std.proofs.Math.Option.{Option, none, some}
-use Rattle.rules.specs.declared.Content.{Content}
 use Rattle.rules.specs.declared.Refusal.TheVariants.{UnwritableId}
 use Rattle.rules.specs.declared.Revision.{Revision}
 use Rattle.rules.specs.declared.Written.{Written}

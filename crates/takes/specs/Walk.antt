@@ -1,5 +1,5 @@
 -- What a walk over the members of an object knows.
-use Rattle.std.specs.Prelude.{List, [], ◌≡◌, ℕ, ◌+◌, get_or}
+use Rattle.std.specs.Prelude.{List, ◌≡◌, ℕ, ◌+◌, get_or}
 use Rattle.json_text.specs.Grammar.{string}
 use Rattle.json_text.specs.Tight.{member, value}
 use Rattle.json_text.specs.Members.{Json, object_of, value_of, line_of}

@@ -1,7 +1,7 @@
 -- A path, step by step, among the rows before each step's own. Assumes nothing.
 use mathlib.Core.Path.{◌≡◌, refl, sym, ap, ◌∙◌}
 use mathlib.Core.Bool.{Bool, true, false, not}
-use mathlib.Core.List.{List, [], ◌∷◌, append-nil}
+use mathlib.Core.List.{List, [], ◌∷◌}
 use mathlib.Core.Option.{Option, none, some}
 use Prim.Native.Nat.{ℕ, zero, suc, pred, ◌+◌, ◌-◌, ◌*◌, ◌≤◌, ◌<◌}
 use native.Mathlib.Omega.{arith}
@@ -23,11 +23,10 @@ use Rattle.rules.specs.Write.{parent_in}
 use Rattle.rules.proofs.OrderLaws.{rev_order, order_rev_same}
 use Rattle.octets.specs.Splice.{splice}
 use Rattle.octets.proofs.SpliceLaws.{chain, splice_none}
-use Rattle.tree.specs.declared.path.Parent.{Parent}
 use Rattle.tree.specs.declared.row.Row.{Row}
 use Rattle.tree.specs.declared.table.Body.{Body}
 use Rattle.tree.specs.declared.table.Found.TheVariants.{At, Gap}
-use Rattle.tree.specs.Rows.{parent_of, meaning, row_from, node_held, row_at, node_at, rev_at}
+use Rattle.tree.specs.Rows.{parent_of, meaning, row_from, node_held, row_at, rev_at}
 use Rattle.tree.specs.Table.{tree_at, body, tree_in, row_start, place_of}
 use Rattle.tree.specs.Path.{path_above, HasParent, IsParent, HashesPut, PathPut}
 use Rattle.tree.proofs.RowLaws.{row_at_means, rev_less}

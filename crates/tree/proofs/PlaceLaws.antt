@@ -10,7 +10,7 @@ use Rattle.rules.specs.declared.Order.TheVariants.{Less, Equal, Greater}
 use Rattle.rules.specs.declared.Revision.{Revision}
 use Rattle.rules.specs.Map.{Map, by_order, find, alter}
 use Rattle.rules.specs.Order.{order_rev}
-use Rattle.rules.specs.Replica.{Node, Tree}
+use Rattle.rules.specs.Replica.{Tree}
 use Rattle.rules.proofs.OrderLaws.{TotalOrder, rev_order}
 use Rattle.tree.specs.declared.table.Found.{Found}
 use Rattle.tree.specs.declared.table.Found.TheVariants.{At, Gap}

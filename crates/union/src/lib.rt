@@ -3,4 +3,3 @@
 // other. It uses rules and has no code: specs/Said.antt has what the theorems say beyond rules, and
 // proofs/Demand3.antt the theorems.
 #![tactic(auto)]
-

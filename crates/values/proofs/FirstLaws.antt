@@ -6,7 +6,7 @@ use Prim.Native.Nat.{ℕ, suc, ◌+◌, ◌-◌, ◌≤◌, ◌<◌}
 use native.Mathlib.Omega.{arith}
 use lib.ListN.{length, get_or, take, drop, length-append, length-drop}
 use Rattle.json_text.specs.Grammar.{byte, range, ◌then◌, ◌or◌, many, none, more, unescaped, char, string, scalar}
-use Rattle.json_text.specs.Tight.{value, object, array}
+use Rattle.json_text.specs.Tight.{value}
 use Rattle.json_text.specs.Members.{Form, plain, Json, spelt, object_of, array_of, form_of, value_of}
 use Rattle.json_text.specs.Skips.{OnlyAt}
 use Rattle.values.specs.Reading.{ItemAt}

@@ -1,6 +1,5 @@
 -- Each public function has one outcome. Assumes nothing.
-use mathlib.Core.Path.{refl}
-use Rattle.rules.specs.Outcome.{OneOutcome, nothing}
+use Rattle.rules.specs.Outcome.{OneOutcome}
 use Rattle.rules.proofs.OutcomeLaws.{fixed}
 use Rattle.writes.proofs.settle.write_to.Kinds as write-to
 use Rattle.writes.proofs.settle.write_to.Reads as write-to'

@@ -3,7 +3,7 @@ use mathlib.Core.Path.{◌≡◌, refl, sym, ap, ap₂, ◌∙◌, subst}
 use mathlib.Core.Bool.{Bool, true, false}
 use mathlib.Core.List.{List, [], ◌∷◌}
 use mathlib.Core.Option.{Option, none, some}
-use Prim.Native.Nat.{ℕ, suc, min, ◌-◌, ◌/◌, ◌≤◌, ◌<◌}
+use Prim.Native.Nat.{ℕ, suc, min, ◌/◌, ◌≤◌, ◌<◌}
 use native.Mathlib.Omega.{arith}
 use lib.Dec.{leb}
 use lib.ListN.{length, get_or, take}
@@ -26,9 +26,9 @@ use Rattle.rules.specs.Union.{IsWrite}
 use Rattle.rules.specs.Write.{Write, gives, add_all, next, added, is_none, is_new, count_new, form_refusals, write}
 use Rattle.tree.specs.declared.table.Found.{Found}
 use Rattle.tree.specs.declared.table.Found.TheVariants.{At, Gap}
-use Rattle.tree.specs.Table.{body, tree_in, insert_at}
+use Rattle.tree.specs.Table.{tree_in, insert_at}
 use Rattle.tree.specs.declared.table.Body.{Body}
-use Rattle.store.specs.Storage.{stored, replica_of, Laid, IsStored}
+use Rattle.store.specs.Storage.{replica_of, Laid, IsStored}
 use Rattle.store.specs.Documents.{no_document, documents_of, document_at, place_of_id, body_at, HasDocument, Looked, IsBody, Shows}
 use Rattle.store.specs.Change.{blank, with_document, with_seq, with_tree, Holds, CanAddDocument}
 use Rattle.store.proofs.FitLaws.{stored_laid}

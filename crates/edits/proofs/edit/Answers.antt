@@ -4,7 +4,6 @@ use mathlib.Core.Bool.{true, false}
 use lib.ListN.{length}
 use mir.Syntax.{w8}
 use borrow.Kind.Array.{e_int, good_length}
-use borrow.Author.Tests.{not-true, not-false}
 use Rattle.rules.specs.Edit.{Edit, parent_rule, last_number, new_number}
 use Rattle.rules.specs.Room.{hash_size}
 use Rattle.store.specs.Documents.{Shows}

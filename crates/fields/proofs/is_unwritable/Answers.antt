@@ -1,7 +1,6 @@
 -- `fields::is_unwritable` meets its contract. Assumes nothing.
 use mathlib.Core.Path.{refl, sym, ◌∙◌}
 use native.Mathlib.Omega.{arith}
-use borrow.Author.Tests.{not-true, not-false}
 use Rattle.fields.proofs.NameLaws.{unwritable_here, unwritable_next, unwritable_none}
 use Rattle.fields.proofs.is_unwritable.Goals as goal
 

@@ -1,5 +1,4 @@
 -- `ids_at` meets its contract. The loop's invariant: the values before i are hashes, and those are laid down. Assumes nothing.
-use borrow.Author.Tests.{not-true, not-false}
 use native.Mathlib.Omega.{arith}
 use Rattle.json_text.proofs.WsLaws.{stands}
 use Rattle.takes.proofs.IdsLaws.{no_ids, ids_start, laid_here, id_wrong, ids_on, ids_last, ids_no_end, ids_within, ids_fall}

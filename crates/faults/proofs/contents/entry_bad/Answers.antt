@@ -4,7 +4,6 @@ use mathlib.Core.Bool.{◌&&◌}
 use Prim.Native.Nat.{◌+◌}
 use native.Mathlib.Omega.{arith}
 use lib.Dec.{eqb}
-use borrow.Author.Tests.{not-true, not-false}
 use Rattle.rules.specs.Bytes.{all_zero}
 use Rattle.rules.specs.Layout.{id_in, count_in}
 use Rattle.layout.specs.Fields.{entry_place}

@@ -3,7 +3,6 @@ use mathlib.Core.Path.{◌≡◌, refl, sym, ◌∙◌}
 use mathlib.Core.Bool.{true}
 use Prim.Native.Nat.{◌+◌, ◌-◌, ◌*◌, ◌<◌}
 use native.Mathlib.Omega.{arith}
-use borrow.Author.Tests.{not-true, not-false}
 use Rattle.rules.specs.Layout.{hash_in}
 use Rattle.rules.specs.Room.{hash_size}
 use Rattle.writes.specs.Path.{count_of}
