@@ -53,7 +53,7 @@ fn link(top: &Path) {
     } else {
         println!(
             "cargo::error=There is no archive {}. Set REFILE_LIB_DIR to the folder that holds \
-             librefile.a; in a copy of the sources `rt staticlib refile` makes it.",
+             librefile.a; in a copy of the sources the script archive in the folder .ci makes it.",
             archive.display()
         );
     }

@@ -7,8 +7,9 @@ ghost use Rattle.rules.specs.Report.{input_most};
 ghost use Rattle.check_main.specs.Input.{Fits, Within};
 
 use layout::IMAGE_MOST;
-use libc::{EINTR, STDERR_FILENO, STDIN_FILENO, STDOUT_FILENO};
 use report::{REPORT_MOST, put_report};
+use std::io::{ErrorKind, Read, Write};
+use std::rt::{Stderr, Stdin};
 
 // One byte more than the largest image has, so that a longer input is seen to be too long.
 const INPUT: usize = IMAGE_MOST + 1;
@@ -33,34 +34,32 @@ enum Input {
 }
 
 // One read into buf from `at` on.
-fn read_at(buf: &mut [u8], at: usize) -> Got
+fn read_at(mut stdin: Stdin, buf: &mut [u8], at: usize) -> Got
     requires { at ≤ length buf.old }
     ensures { Fits result at (length buf.old) }
 {
-    let got = libc::read(STDIN_FILENO, &mut buf[at..]);
-    if got < 0 {
-        if os::errno() == EINTR {
-            return Got::Interrupted;
+    match stdin.read(&mut buf[at..]) {
+        Ok(0) => Got::End,
+        Ok(n) => Got::Bytes(n),
+        Err(e) => {
+            if e.kind() == ErrorKind::Interrupted {
+                return Got::Interrupted;
+            }
+            Got::Failed
         }
-        return Got::Failed;
     }
-    let n = io::count(got, &buf[at..]);
-    if n == 0 {
-        return Got::End;
-    }
-    Got::Bytes(n)
 }
 
 // Reads until buf is full, the input ends or a read fails: no byte past `input_most`. A failed read is
 // never taken for the end.
-fn read_input(buf: &mut [u8]) -> Input
+fn read_input(stdin: Stdin, buf: &mut [u8]) -> Input
     requires { length buf.old ≡ input_most }
     ensures { Within result (length buf.new) }
 {
     let mut at = 0;
     let mut tries = TRIES;
     while at < buf.len() {
-        match read_at(buf, at) {
+        match read_at(stdin, buf, at) {
             Got::Bytes(n) => {
                 at += n;
             }
@@ -81,28 +80,31 @@ fn read_input(buf: &mut [u8]) -> Input
     Input::Read(at)
 }
 
+// Says on standard error what went wrong. Where that fails too, nobody is left to be told.
+fn complain(mut stderr: Stderr, text: &[u8]) {
+    let _ = stderr.write_all(text);
+}
+
 // Writes the report of what was read to standard output.
-fn write_report(image: &[u8]) {
+fn write_report(rt: &HostRuntime, image: &[u8]) {
     let mut out = [0u8; REPORT_MOST];
     let n = put_report(image, &mut out);
-    let is_written = io::write_all(STDOUT_FILENO, &out[..n]);
+    let is_written = rt.stdout().write_all(&out[..n]).is_ok();
     if !is_written {
-        io::write_all(
-            STDERR_FILENO,
+        complain(
+            rt.stderr(),
             b"check: the report could not be written, so what was printed of it does not count. See that standard output takes what is written to it, and check again.\n",
         );
     }
 }
 
-fn main() {
+fn main(rt: HostRuntime) {
     let mut input = [0u8; INPUT];
-    match read_input(&mut input) {
-        Input::Read(n) => write_report(&input[..n]),
-        Input::Failed => {
-            io::write_all(
-                STDERR_FILENO,
-                b"check: the input could not be read, so nothing was judged. See that it is a file that you may read, and check it again.\n",
-            );
-        }
+    match read_input(rt.stdin(), &mut input) {
+        Input::Read(n) => write_report(&rt, &input[..n]),
+        Input::Failed => complain(
+            rt.stderr(),
+            b"check: the input could not be read, so nothing was judged. See that it is a file that you may read, and check it again.\n",
+        ),
     }
 }

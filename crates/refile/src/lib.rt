@@ -3,7 +3,7 @@
 // It uses every crate below; above it stands only demands, which has theorems about these calls and no code.
 #![tactic(auto)]
 
-mod about;
+pub mod about;
 mod answer;
 pub mod change;
 mod number;

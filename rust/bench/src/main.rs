@@ -382,7 +382,7 @@ fn check_programs() -> io::Result<(PathBuf, PathBuf)> {
         .map_or_else(|| top.join("target/bin/check_main"), PathBuf::from);
     if !proved.is_file() {
         return Err(io::Error::other(
-            "there is no check program; run `rt check check_main` at the top, or set REFILE_CHECK",
+            "there is no check program; run `./check examples/lot.image` at the top, or set REFILE_CHECK",
         ));
     }
     // `cargo run` builds only the program that it runs.

@@ -193,7 +193,7 @@ fn lay_out(folder: &Path, scenario: &Scenario) {
     let listed = fs::read_to_string(top.join("crates.txt")).unwrap();
     let kept = |line: &&str| CRATES.contains(&line.split(':').next().unwrap());
     let mut lines: Vec<&str> = listed.lines().filter(kept).collect();
-    let program = format!("replay: {} io libc", CRATES.join(" "));
+    let program = format!("replay: {}", CRATES.join(" "));
     lines.push(&program);
     fs::write(folder.join("crates.txt"), lines.join("\n") + "\n").unwrap();
     let replay = folder.join("crates/replay");
@@ -205,8 +205,10 @@ fn lay_out(folder: &Path, scenario: &Scenario) {
         .iter()
         .flat_map(|step| line(step).bytes())
         .collect();
-    fs::write(replay.join("stdin"), steps).unwrap();
-    fs::write(replay.join("stdout"), expected(scenario)).unwrap();
+    let cases = folder.join("cases");
+    fs::create_dir(&cases).unwrap();
+    fs::write(cases.join("steps"), steps).unwrap();
+    fs::write(cases.join("steps.stdout"), expected(scenario)).unwrap();
 }
 
 /// The lines of a must-fail edit: those of the file of its name, or those that a line `# name:` begins in a
@@ -249,8 +251,8 @@ fn apply_edit(crate_folder: &Path, edit: &str) {
 /// Whether the program printed the model's lines, and what was said.
 fn runs(folder: &Path) -> (bool, String) {
     let run = Command::new("rt")
-        .args(["try", "replay"])
-        .current_dir(folder)
+        .args(["try", "--cases", "../../cases"])
+        .current_dir(folder.join("crates/replay"))
         .output()
         .expect("the kit's command rt is there");
     let said = [run.stdout, run.stderr].concat();
@@ -298,7 +300,7 @@ fn unnoticed(scenario: &Scenario, name: &str, label: &str) -> Option<String> {
     lay_out(&room.0, scenario);
     apply_edit(&room.0.join("crates").join(name), &edit_named(name, label));
     let (same, said) = runs(&room.0);
-    if !same && said.contains("did not write what is expected") {
+    if !same && said.contains("output=differs") {
         return None;
     }
     Some(format!("{name} {label}:\n{said}"))
