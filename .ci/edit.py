@@ -2,12 +2,13 @@
 # are its own words:
 #
 #     # What it stands for, in one sentence or more.
-#     # fails: proofs/plan/plan_path/Proof.antt, loop-again
+#     # fails: proofs/plan/plan_path/Answers.antt, loop-k-preserved
 #
-# `fails:` names the fact that no longer holds: the file, and the theorem or the need in it. A function
-# that has no proof file is named by its source, as `src/plan.rt, either.returns`. Where an edit breaks
-# several facts that matter it has several such lines. `# misfit: why` says that the edit only makes a
-# proof file unfit for the code. Then come the changes, as the prover's kit reads them.
+# `fails:` names the fact that no longer holds: the file, and the theorem in it or the goal that it
+# answers. A goal that no file answers is named by the source of its function, as
+# `src/plan.rt, either.returns`. Where an edit breaks several facts that matter it has several such
+# lines. `# misfit: why` says that the edit only makes a proof file unfit for the code. Then come the
+# changes, as the prover's kit reads them.
 #
 # A file may hold several edits, each begun by a line `# name: LABEL`, which the prover then tries at
 # once. Each of these alters the body of one function, no two the same, and names a fact of that
@@ -59,7 +60,7 @@ class Edit:
             self.fault("an `old:` without its `new:`")
 
     def named(self, file, name):
-        """The fact stands where the edit says: a theorem, or a need that a proof file answers."""
+        """The fact stands where the edit says: a theorem, or a goal that a file answers or the prover alone."""
         place = self.home / file
         text = place.read_text() if place.is_file() else ""
         if file.startswith("proofs/"):
@@ -89,7 +90,7 @@ class Edit:
         if any((file, function) in e.alters() for e in self.beside if e is not self):
             self.fault(f"another edit of its file alters {function} as well")
         folder = "proofs/" + file[4:-3].replace("lib", "", 1 if file == "src/lib.rt" else 0)
-        own = {f"{folder}/{function}/Proof.antt".replace("//", "/"), f"{folder}/+{function}/Proof.antt".replace("//", "/")}
+        own = {f"{folder}/{cycle}{function}/Answers.antt".replace("//", "/") for cycle in ("", "+")}
         for place, name in self.fails:
             if place not in own and (place, name.split(".")[0]) != (file, function):
                 self.fault(f"{name} in {place} is no fact of {function}'s own proof, and so it needs a file of its own")
@@ -98,12 +99,7 @@ class Edit:
 
     def edited(self, alone=False):
         """The crate's files as the edits of its file leave them, or this one alone, each with its text."""
-        files = {
-            str(p.relative_to(self.home)): p.read_text()
-            for part in ("src", "specs", "proofs")
-            for p in sorted((self.home / part).rglob("*"))
-            if p.is_file()
-        }
+        files = texts_of(self.home)
         for e in [self] if alone else self.beside:
             e.applied(files)
         return files
@@ -116,11 +112,19 @@ class Edit:
             files[file] = files.get(file, "").replace(old, new)
 
 
+def texts_of(home):
+    """The files of a crate that a check reads, each with its text."""
+    found = [p for part in ("src", "specs", "proofs") for p in sorted((home / part).rglob("*")) if p.is_file()]
+    return {str(p.relative_to(home)): p.read_text() for p in found}
+
+
 def bodies(text):
     """Each function of a source, with where its body begins and ends."""
     for m in re.finditer(r'^(?:pub(?:\(crate\))? )?(?:extern "C" )?fn (\w+)', text, re.M):
         end = text.find("\n}\n", m.start())
-        start = min((i for i in (text.find("\n{\n", m.start()), text.find(") {\n", m.start())) if i >= 0), default=end)
+        after = text.find("\n", m.start())
+        # under a contract the opening brace has a line of its own
+        start = after if text[after - 1] == "{" else text.find("\n{\n", m.start())
         yield m[1], start, end
 
 
@@ -140,10 +144,15 @@ def edits_in(path):
     return found
 
 
+def listed(tree):
+    """The crates of a tree, lowest first, each with those that it names."""
+    lines = re.findall(r"^(\w+)[^:#\n]*:(.*)", (tree / "crates.txt").read_text(), re.M)
+    return {crate: deps.split("#")[0].split() for crate, deps in lines}
+
+
 def edits(tree):
     """All edits of a tree, in the order of crates.txt."""
-    listed = re.findall(r"^(\w+):", (tree / "crates.txt").read_text(), re.M)
-    files = [p for crate in listed for p in sorted((tree / "crates" / crate / "must-fail").glob("*"))]
+    files = [p for crate in listed(tree) for p in sorted((tree / "crates" / crate / "must-fail").glob("*"))]
     found = [e for p in files for e in edits_in(p)]
     for i, e in enumerate(found):
         if any(o.crate == e.crate and o.changes == e.changes for o in found[:i]):

@@ -1,33 +1,56 @@
 # What the gate's checks read of code and proofs. The functions of a source, public or not, are read by
-# tokens: white space, comments and texts don't count. What this can't read it refuses, by
-# `fault(path, what)`.
+# tokens: white space, comments, texts and the line that asks for tactics don't count. What this can't
+# read it refuses, by `fault(path, what)`.
 import re
 
 TOKEN = re.compile(
-    r"""(?P<space>\s+|//[^\n]*)
+    r"""(?P<space>\s+|//[^\n]*|\#!\[tactic\(auto\)\])
     |(?P<text>b?"(?:\\.|[^"\\])*"|b?'(?:\\.[^'\n]{0,8}|[^'\\\n])')
-    |(?P<fact>⌜[^⌜⌝]*⌝)
     |(?P<life>'\w+)
     |(?P<word>\w+)
     |(?P<sign>->|::|.)""",
     re.X | re.S,
 )
-CLAUSES = {"requires", "ensures", "measure", "where", "{", ";"}
+STATED = {"requires", "ensures", "measure"}
+CLAUSES = STATED | {"where", "{", ";"}
 BEFORE_FN = {"pub", "crate", "super", "self", "in", "const", "unsafe", "async", "extern", "(", ")", "::"}
+
+
+def stated(text, at):
+    """Where what a clause states begins and ends, if its name and its opening brace stand at this place."""
+    head = re.compile(r"(?:\s+[a-z]\w*)?\s*(?=\{)").match(text, at)
+    depth, end = 0, head.end() if head else len(text)
+    while end < len(text):
+        depth += {"{": 1, "}": -1}.get(text[end], 0)
+        end += 1
+        if not depth:
+            return head.end(), end
+    return None
 
 
 def tokens(path, fault):
     """The words and signs of a source; what a contract states counts as one, and holds no code."""
-    text, out = path.read_text(), []
-    for m in TOKEN.finditer(text):
-        kind, word, rest = m.lastgroup, m.group(), text[m.end() : m.end() + 1]
+    text, out, at = path.read_text(), [], 0
+    while at < len(text):
+        m = TOKEN.match(text, at)
+        kind, word, at = m.lastgroup, m.group(), m.end()
+        rest = text[at : at + 1]
         if kind == "space":
             continue
-        if kind == "fact" and re.search(r'\bfn\b|"|--|\{-', word) or word in "⌜⌝":
-            fault(path, f"a fact that can't be told from code: {word[:60]}")
         if word in "/#" and rest in ("*", "!") or word in ("r", "br") and rest in ('"', "#") or word in ('"', "macro_rules", "include"):
             fault(path, f"`{word}{rest}` is not read by this check")
-        out.append(("text", word) if kind in ("text", "fact") else (kind, word))
+        if word == "ghost" and not re.match(r"\s+use\b[^;]*;", text[at:]):
+            fault(path, f"`ghost{text[at : at + 20]}` is not read by this check")
+        out.append(("text", word) if kind == "text" else (kind, word))
+        if word in STATED:
+            found = stated(text, at)
+            if not found:
+                fault(path, f"`{word}` is not followed by what it states")
+                continue
+            fact, at = text[found[0] : found[1]], found[1]
+            if re.search(r"""\bfn\b|"|--|\{-|//|'.?[{}]""", fact):
+                fault(path, f"a fact that can't be told from code: {fact[:60]}")
+            out.append(("fact", fact))
     return out
 
 
@@ -40,7 +63,7 @@ class Function:
         return "::".join([self.crate, *self.scope, self.name])
 
     def module(self, part):
-        return ".".join([f"Rattle·{self.crate}·proofs", "proofs", *self.scope, self.name, part])
+        return ".".join(["Rattle", self.crate, "proofs", *self.scope, self.name, part])
 
 
 def closing(words, at):
