@@ -9,7 +9,7 @@ use Rattle.store.specs.Storage.{stored, replica_of}
 use Rattle.lines.specs.Take.{Members, take_in}
 use Rattle.lines.proofs.TakesLaws.{holds_one}
 use Rattle.takes.specs.Took.{Took}
-use Rattle.takes.proofs.take_in.Kinds as take_in
+use Rattle.takes.proofs.take_in.Kinds as take-in
 use Rattle.takes.proofs.take_in.Reads as take-in'
 
 -- what is left and answered is that of the one thing that the line holds
@@ -20,5 +20,5 @@ took_one {s} {line} p q =
       p.left ∙ (ap (λ (m : Option Members). stored (take_in (replica_of s) m).1) e ∙ sym q.left),
     )
 
-pub take_in_outcome : OneOutcome _ take_in.ps take_in.r take-in'.Asked take-in'.Learnt (λ κs s. s.0.now)
+pub take_in_outcome : OneOutcome _ take-in.ps take-in.r take-in'.Asked take-in'.Learnt (λ κs s. s.0.now)
 take_in_outcome κs a x y s t h p q = took_one p q
