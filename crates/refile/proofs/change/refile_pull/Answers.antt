@@ -1,4 +1,5 @@
 -- `refile_pull` meets its contract. Assumes nothing.
+use native.Mathlib.Omega.{arith}
 use Rattle.refile.specs.Boundary.{count_bytes, pull_call}
 use Rattle.refile.proofs.CallLaws.{none_first, lent_stands, keeps, lent_refuses, more_refuses}
 use Rattle.refile.proofs.ChangeLaws.{pull_short, pull_done}
@@ -25,6 +26,9 @@ pull-c-requires c =
       source = lent_stands _ (none_first _ _ c.bad_replica-read.ensures c.if-read-ne0.false) c.requires.1;
       target = lent_stands _ (none_first _ _ c.bad_replica-lent.ensures c.if-lent-ne0.false) c.requires.0;
     }
+
+pub put_numbers-requires : goal.put_numbers-requires
+put_numbers-requires c = omega arith
 
 pub returns : goal.returns
 unfolding count_bytes
