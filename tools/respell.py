@@ -17,8 +17,17 @@ ROOTS = [a for a in sys.argv[1:] if not a.startswith("--")]
 ROOT = ROOTS[0] if ROOTS else os.path.join(os.path.dirname(os.path.abspath(__file__)), "..")
 CRATES = [l.split(":")[0].split()[0] for l in open(os.path.join(ROOT, "crates.txt")) if l.strip() and not l.startswith("#")]
 TOKEN = re.compile(r"[^\s(){}.,;\[\]\"«»`⟨⟩|]+")
-# names that would fall together in the table, but stand in no scope together
-APART = {"bothWays": "both_ways", "takeIn": "take_in", "joinedWith": "JoinedWith"}
+# names that would fall together in the table, but stand in no scope together; a fact, which is a type; and fields that
+# stand beside the definition of their name
+APART = {
+    "bothWays": "both_ways",
+    "takeIn": "take_in",
+    "joinedWith": "JoinedWith",
+    "documents-most": "documents_at_most",
+    "revisions-most": "revisions_at_most",
+    "seq-most": "seq_at_most",
+    "id-most": "id_at_most",
+}
 JOINED = {"length", "drop", "take", "map", "sum", "reverse", "replicate", "append", "get_or", "splice", "part", "min", "max"}
 
 

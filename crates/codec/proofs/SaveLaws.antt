@@ -50,7 +50,7 @@ module _ (r : Replica) (h : Storable r) where
       let R : List ℕ = filled rows_room (join (stored_rows ds)) in
       let s : (E ++ Z) ++ R ≡ entries_with 0 0 ds ++ (Z ++ R) = append_assoc E Z R ∙ ap (λ (l : List ℕ). l ++ (Z ++ R)) (stored_entries_lem ds) in
       ap (λ (l : List ℕ). moved row_size place count head_size (head ++ l)) s
-      ∙ (moved_entries row_size place 0 0 ds head (Z ++ R) head_size (length_head count held r.seq.0) h.documents h.revisions_most_lem
+      ∙ (moved_entries row_size place 0 0 ds head (Z ++ R) head_size (length_head count held r.seq.0) h.documents h.revisions_at_most
       ∙ sym (contents_entries place ds))
 
   rows_saved : (k : ℕ) → k ≡ row_size * held → take k (drop rows_place (stored r)) ≡ body_bytes ds
@@ -117,8 +117,8 @@ pub can_write : (b out : List ℕ) (d r : ℕ) → IsStored b → d ≡ length (
     → CanWrite b out d r
 can_write b out d r i p q h = record {
   size = size_laid b (stored_laid b i);
-  documents = omega (arith, i.replica.documents_most_lem);
-  revisions = omega (arith, i.replica.revisions_most_lem);
+  documents = omega (arith, i.replica.documents_at_most);
+  revisions = omega (arith, i.replica.revisions_at_most);
   room = h;
 }
 

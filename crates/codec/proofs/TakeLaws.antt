@@ -120,12 +120,12 @@ module _ (r : Replica) (i : IsReplica r) where
       omega arith
 
   documents_is : (head_of (image r)).documents ≡ d
-  documents_is = ap (λ (s : List ℕ). (head_of s).documents) image_parts ∙ head_documents d n r.seq.0 (contents ++ body) i.documents_most_lem
+  documents_is = ap (λ (s : List ℕ). (head_of s).documents) image_parts ∙ head_documents d n r.seq.0 (contents ++ body) i.documents_at_most
 
   entries_taken : moved 0 0 d head_size (image r) ≡ join (stored_entries ds)
   entries_taken =
       ap (moved 0 0 d head_size) (image_parts ∙ ap (λ (l : List ℕ). head ++ (l ++ body)) (contents_entries (head_size + entry_size * d) ds))
-      ∙ (moved_entries 0 0 row_size (head_size + entry_size * d) ds head body head_size (length-head_bytes d n r.seq.0) fits.documents i.revisions_most_lem
+      ∙ (moved_entries 0 0 row_size (head_size + entry_size * d) ds head body head_size (length-head_bytes d n r.seq.0) fits.documents i.revisions_at_most
       ∙ sym (stored_entries_lem ds))
 
   rows_taken : (p : ℕ) → p ≡ head_size + entry_size * d → drop p (image r) ≡ join (stored_rows ds)
@@ -142,7 +142,7 @@ module _ (r : Replica) (i : IsReplica r) where
       let E : List ℕ = join (stored_entries ds) in
       let R : List ℕ = join (stored_rows ds) in
       let h : length H ≡ head_size = length_head d n r.seq.0 in
-      let e : length E ≤ contents_room = let a = size_entries r fits in let b = i.documents_most_lem in omega arith in
+      let e : length E ≤ contents_room = let a = size_entries r fits in let b = i.documents_at_most in omega arith in
       let c : length (H ++ filled contents_room E) ≡ rows_place = length-append H (filled contents_room E) ∙ (let a = length-filled contents_room E e in omega arith) in
       let one : splice (zeros store_size) documents_at (part documents_at head_middle (image r)) ≡ H ++ (zeros contents_room ++ zeros rows_room) =
       ap₂ (λ (z s : List ℕ). splice z documents_at (part documents_at head_middle s)) (zeros_three head_size contents_room rows_room) image_parts
@@ -193,10 +193,10 @@ module _ (s : List ℕ) (p : Bytes s) (e : first_that (faults s) ≡ none) where
 
   pub stands : (c : ℕ) → c ≡ (head_of s).documents → Stands s c (revisions_held held.documents)
   stands c q =
-      let a = is.documents_most_lem in
+      let a = is.documents_at_most in
       let b = count in
       let l = sym (ap length same) ∙ image_length held is in
-      record { documents = omega arith; revisions = is.revisions_most_lem; size = omega arith }
+      record { documents = omega arith; revisions = is.revisions_at_most; size = omega arith }
 
   pub relaid : (c : ℕ) → c ≡ (head_of s).documents → laid_out c s (drop (head_size + entry_size * c) s) ≡ stored held
   relaid c q =

@@ -97,10 +97,10 @@ module _ (b : List ℕ) (d r : ℕ) (counts : CountsIn b d r) where
   length_X = length_part documents_at head_middle b (omega (arith, counts.size))
 
   length_M : length M ≡ d * entry_size
-  length_M = length_moved row_size (head_size + entry_size * d) d head_size b (omega (arith, counts.size, counts.documents_most_lem))
+  length_M = length_moved row_size (head_size + entry_size * d) d head_size b (omega (arith, counts.size, counts.documents_at_most))
 
   length-rows : length rows ≡ row_size * r
-  length-rows = length_part rows_place (row_size * r) b (omega (arith, counts.size, counts.revisions_most_lem))
+  length-rows = length_part rows_place (row_size * r) b (omega (arith, counts.size, counts.revisions_at_most))
 
   pub length_whole : length whole ≡ total_length d r
   unfolding image_from
@@ -130,7 +130,7 @@ module _ (b : List ℕ) (d r : ℕ) (counts : CountsIn b d r) where
       ∙ (let u = length-append X T in let v = length-be 2 edition in let w = length-be 4 (total_length d r) in let x = length_X in omega arith) in
       let c : be 2 edition ++ (X ++ (T ++ (M ++ rows))) ≡ H ++ (M ++ rows) = simp append_assoc in
       ap (moved 0 0 d head_size) c
-      ∙ moved_again 0 0 row_size (head_size + entry_size * d) d head_size head_size b H rows h (omega (arith, counts.size, counts.documents_most_lem))
+      ∙ moved_again 0 0 row_size (head_size + entry_size * d) d head_size head_size b H rows h (omega (arith, counts.size, counts.documents_at_most))
 
   rows_same : drop (head_size + entry_size * d) whole ≡ rows
   unfolding image_from
@@ -200,10 +200,10 @@ module _ (b : List ℕ) (n : ℕ) where
   not_sized ne i = ne (size_laid b (stored_laid b i))
 
   pub not_documents : n ≡ (head_of b).documents → documents_most < n → IsStored b → ⊥
-  not_documents e h i = let c = (stored_counts b i).0 in omega (arith, i.replica.documents_most_lem)
+  not_documents e h i = let c = (stored_counts b i).0 in omega (arith, i.replica.documents_at_most)
 
   pub not_revisions : n ≡ (head_of b).revisions → revisions_most < n → IsStored b → ⊥
-  not_revisions e h i = let c = (stored_counts b i).1 in omega (arith, i.replica.revisions_most_lem)
+  not_revisions e h i = let c = (stored_counts b i).1 in omega (arith, i.replica.revisions_at_most)
 
 -- laid out anew, as the code takes the rows
 pub anew : (b : List ℕ) (d r k : ℕ) (t : List ℕ) → t ≡ laid_out d b (take k (drop rows_place b)) → k ≡ row_size * r → t ≡ laid_out d b (part rows_place (row_size * r) b)

@@ -95,8 +95,8 @@ pub record CountsIn (b : List ℕ) (d r : ℕ) : Type 0 where
   pub size : length b ≡ store_size
   pub documents : d ≡ (head_of b).documents
   pub revisions : r ≡ (head_of b).revisions
-  pub documents_most_lem : d ≤ documents_most
-  pub revisions_most_lem : r ≤ revisions_most
+  pub documents_at_most : d ≤ documents_most
+  pub revisions_at_most : r ≤ revisions_most
 
 -- yes exactly if it is so
 pub record Tells (so : Type 0) (answer : Bool) : Type 0 where

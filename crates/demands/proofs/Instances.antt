@@ -71,7 +71,7 @@ well_formed_fit w h =
     let g = good_form w h.form in
     let s = g.size in
     let m = g.most in
-    let i = g.id_most_lem in
+    let i = g.id_at_most in
     record { write = h.write; id = omega arith; path = omega arith }
 
 -- ---- runs of the calls

@@ -103,7 +103,7 @@ held_most (x ∷ ds) d (inr m) = let h = held_most ds d m in omega arith
 
 tree_most : (r : Replica) → IsReplica r → (d : Document) → document_of r lot ≡ some d → length d.tree ≤ revisions_most
 unfolding document_of
-tree_most r k d e = let h = held_most r.documents (lot, d) (find_in bytes_order r.documents lot d e) in let m = k.revisions_most_lem in omega arith
+tree_most r k d e = let h = held_most r.documents (lot, d) (find_in bytes_order r.documents lot d e) in let m = k.revisions_at_most in omega arith
 
 -- a refusal's value is 0
 refused_value : (x n : ℕ) → decode x ≡ refused n → value_in x ≡ 0

@@ -55,7 +55,7 @@ counts_small : (q : Seq) (s t : Replica) → IsReplica s → total (pull q s t).
 counts_small q s t k =
     let a = union.counts_offers q s t in
     let b = offers_most q s in
-    let c = k.revisions_most_lem in
+    let c = k.revisions_at_most in
     omega arith
 
 module _ {source : List ℕ} {q : Seq} {target : List ℕ} {c : Counts} {left : List ℕ} (k : Pulls source q target c left) where

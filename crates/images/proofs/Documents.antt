@@ -102,7 +102,7 @@ entries_forth place before (d ∷ ds) r s b room most =
       id = r.0.id;
       rows_least = r.0.tree.some_revision;
       rows_most = omega arith;
-      seq_most_lem = omega arith;
+      seq_at_most = omega arith;
       place = omega arith;
     }
 

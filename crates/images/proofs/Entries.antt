@@ -195,14 +195,14 @@ pub record IsEntry (due : ℕ) (d : Id × Document) : Type 0 where
   pub id : IsId d.0
   pub rows_least : 1 ≤ length d.1.tree
   pub rows_most : length d.1.tree < 65536
-  pub seq_most_lem : d.1.seq.0 ≤ seq_most
+  pub seq_at_most : d.1.seq.0 ≤ seq_most
   pub place : due < 4294967296
 
 pub entry_for_fits : (place : ℕ) (d : Id × Document) → IsEntry place d → EntryFits (entry_for place d)
 unfolding entry_for
 entry_for_fits place d r =
     let most = r.id.most in
-    let seq = r.seq_most_lem in
+    let seq = r.seq_at_most in
     record {
       size = omega arith;
       id = λ h. refl;

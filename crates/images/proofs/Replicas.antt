@@ -87,18 +87,18 @@ module _ (r : Replica) (i : IsReplica r) where
 
   hold : EntriesHold (bodies r.documents) none (entries_from r)
   hold =
-      let a = i.documents_most_lem in
-      let b = i.revisions_most_lem in
-      let c = i.seq_most_lem in
+      let a = i.documents_at_most in
+      let b = i.revisions_at_most in
+      let c = i.seq_at_most in
       let e = i.seq_largest in
       entries_forth (bodies r.documents) none r.documents docs_each i.ascending tt (omega arith) (omega arith)
 
   fits : Fits (head_for r) (entries_from r) (rows_for r.documents)
   unfolding head_for
   fits =
-      let a = i.documents_most_lem in
-      let b = i.revisions_most_lem in
-      let c = i.seq_most_lem in
+      let a = i.documents_at_most in
+      let b = i.revisions_at_most in
+      let c = i.seq_at_most in
       record {
         head = record {
           edition = omega arith;
@@ -125,8 +125,8 @@ module _ (r : Replica) (i : IsReplica r) where
         long = omega arith;
         edition = refl;
         zero = refl;
-        documents = i.documents_most_lem;
-        revisions = i.revisions_most_lem;
+        documents = i.documents_at_most;
+        revisions = i.revisions_at_most;
         total = refl;
         given = refl;
         entries = hold.clear;
@@ -217,10 +217,10 @@ module _ (s : List ℕ) (p : Bytes s) (e : first_that (faults s) ≡ none) where
               seq_least = each_find bytes_order (λ x. 1 ≤ seq_of x) ds (each_from (λ n. 1 ≤ n) seq_of ds seqs_held.0) k d q;
               seq_own = λ j x u m. own_back ds seqs_held.1 k j d x q u m;
             };
-        documents_most_lem = subst (λ (n : ℕ). n ≤ documents_most) (sym documents_count) rules.documents;
-        revisions_most_lem = subst (λ (n : ℕ). n ≤ revisions_most) (sym revisions_count) rules.revisions;
+        documents_at_most = subst (λ (n : ℕ). n ≤ documents_most) (sym documents_count) rules.documents;
+        revisions_at_most = subst (λ (n : ℕ). n ≤ revisions_most) (sym revisions_count) rules.revisions;
         seq_largest = seq_is ∙ (rules.largest ∙ (ap largest (sym held.entries) ∙ largest_entries_for due ds));
-        seq_most_lem = subst (λ (n : ℕ). n ≤ seq_most) (sym seq_is) (let h = (image_fits s p size).head.seq in omega arith);
+        seq_at_most = subst (λ (n : ℕ). n ≤ seq_most) (sym seq_is) (let h = (image_fits s p size).head.seq in omega arith);
       }
 
   held_head : head_for (replica_in s) ≡ head_of s

@@ -94,6 +94,6 @@ image_length = length-image
 pub image_most : (r : Replica) → IsReplica r → length (image r) ≤ total_length documents_most revisions_most
 image_most r i =
     let n = length-image r i in
-    let d = i.documents_most_lem in
-    let v = i.revisions_most_lem in
+    let d = i.documents_at_most in
+    let v = i.revisions_at_most in
     omega arith

@@ -125,11 +125,11 @@ module _ (r : Replica) (k : IsReplica r) where
   unfolding document_of
   held_fits = record {
     ids = map (λ d. d.0) r.documents;
-    ids_most = rw (length-map (λ (d : Id × Document). d.0) r.documents) k.documents_most_lem;
+    ids_most = rw (length-map (λ (d : Id × Document). d.0) r.documents) k.documents_at_most;
     ids_all = λ i v m. let d = document_of_lem r k i (v, m.0) m.1 in
         in_map (λ (d : Id × Document). d.0) (i, d.0) r.documents (find_in bytes_order r.documents i d.0 d.1);
     revisions = tags r.documents;
-    revisions_most_lem = rw (length_tags r.documents) k.revisions_most_lem;
+    revisions_at_most = rw (length_tags r.documents) k.revisions_at_most;
     revisions_all = λ i v m. let d = document_of_lem r k i (v, m.0) m.1 in
         in_tags r.documents (i, d.0) (v, m.0) (find_in bytes_order r.documents i d.0 d.1) (find_in rev_order d.0.tree v m.0 d.2);
   }
@@ -182,7 +182,7 @@ module _ (r : Replica) (k : IsReplica r) where
 
     revisions_room : revisions_full r w ≡ false
     unfolding revisions_full
-    revisions_room = rw new_none (le-ltb revisions_most (revisions_held r.documents + 0) (let h = k.revisions_most_lem in omega arith))
+    revisions_room = rw new_none (le-ltb revisions_most (revisions_held r.documents + 0) (let h = k.revisions_at_most in omega arith))
 
     seq_room : sequence_spent r w ≡ false
     unfolding sequence_spent

@@ -42,7 +42,7 @@ module _ {s : List ℕ} {q₀ : Seq} {t₀ : List ℕ} (can : CanPull s t₀) wh
   pub rest_all : {p : List ℕ} → length p ≡ path_room → Rest s q₀ t₀ t₀ p q₀ no_counts
   unfolding pull offers
   rest_all e = record {
-    few = let a = offers_most q₀ (replica_of s) in let b = can.source.replica.revisions_most_lem in omega arith;
+    few = let a = offers_most q₀ (replica_of s) in let b = can.source.replica.revisions_at_most in omega arith;
     is = refl;
     is_stored = can.target;
     room = e;

@@ -69,7 +69,7 @@ module _ (s : List ℕ) (i : Id) (d : ℕ) (good : bad_id i ≡ false) (b : Body
   can : CanPut b s i
   can = record {
     rows = (read.opens s i d good b h e k).rows;
-    most = let n = length-held (documents_of s) x held in let m = h.replica.revisions_most_lem in let q = k.rows in omega arith;
+    most = let n = length-held (documents_of s) x held in let m = h.replica.revisions_at_most in let q = k.rows in omega arith;
     few = few;
     id = rw (sym (id_found d i (documents_of s) e).is) is.id.most;
   }

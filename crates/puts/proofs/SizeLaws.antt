@@ -46,5 +46,5 @@ lines_most r k i = go (document_of r i) refl
         omega arith) in
         let few = leaves_most d.tree in
         let held = length-held r.documents (i, d) m in
-        let most = k.revisions_most_lem in
+        let most = k.revisions_at_most in
         omega arith

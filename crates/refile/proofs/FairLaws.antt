@@ -239,7 +239,7 @@ pub sequence_fair : (s : List ℕ) → Lent s → FairCall (sequence_call s)
 unfolding sequence_call
 sequence_fair s l = record {
   house = lent_numbers s [] tt;
-  does = λ e. accepted_fair {L = Unit {0}} tt tt (replica_of s).seq.0 (let m = (lent_stands s (first_both (lent_house s) [] e).0 l).replica.seq_most_lem in omega arith);
+  does = λ e. accepted_fair {L = Unit {0}} tt tt (replica_of s).seq.0 (let m = (lent_stands s (first_both (lent_house s) [] e).0 l).replica.seq_at_most in omega arith);
 }
 
 -- ---- fresh and load

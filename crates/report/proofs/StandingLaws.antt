@@ -36,8 +36,8 @@ winner_rev_lem {t} h is = let a = (has_winner t h).1 in ap (λ (v : Winner). v.r
 
 -- ---- the documents of a buffer
 
-pub id_most_lem : (s : List ℕ) (d : ℕ) {i : Id} → IsStored s → d < length (documents_of s) → i ≡ (document_at (documents_of s) d).0 → length i ≤ id_most
-id_most_lem s d h k e = rw e (each_document s d h k).id.most
+pub id_at_most : (s : List ℕ) (d : ℕ) {i : Id} → IsStored s → d < length (documents_of s) → i ≡ (document_at (documents_of s) d).0 → length i ≤ id_most
+id_at_most s d h k e = rw e (each_document s d h k).id.most
 
 -- ---- a line as it is put together
 

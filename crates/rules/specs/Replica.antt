@@ -123,7 +123,7 @@ pub record IsDocument (r : Replica) (i : Id) (d : Document) : Type 0 where
 pub record IsReplica (r : Replica) : Type 0 where
   pub ascending : Ascending order_bytes r.documents
   pub documents : (i : Id) (d : Document) → document_of r i ≡ some d → IsDocument r i d
-  pub documents_most_lem : length r.documents ≤ documents_most
-  pub revisions_most_lem : revisions_held r.documents ≤ revisions_most
+  pub documents_at_most : length r.documents ≤ documents_most
+  pub revisions_at_most : revisions_held r.documents ≤ revisions_most
   pub seq_largest : r.seq.0 ≡ largest_seq r.documents
-  pub seq_most_lem : r.seq.0 ≤ seq_most
+  pub seq_at_most : r.seq.0 ≤ seq_most

@@ -113,7 +113,7 @@ pub record Fits (g : Things) : Type 0 where
   pub ids_most : length ids ≤ documents_most
   pub ids_all : (i : Id) (v : Revision) → g.revision i v → In i ids
   pub revisions : List (Id × Revision)
-  pub revisions_most_lem : length revisions ≤ revisions_most
+  pub revisions_at_most : length revisions ≤ revisions_most
   pub revisions_all : (i : Id) (v : Revision) → g.revision i v → In (i, v) revisions
 
 -- "hold only things those writes give"

@@ -118,7 +118,7 @@ pub record BodyStanding (s : List ℕ) (d : ℕ) (b : Body) : Type 0 where
   pub size : length s ≡ store_size
   pub base : b.base ≡ rows_place + row_size * first_row (documents_of s) d
   pub rows : first_row (documents_of s) d + b.rows ≤ revisions_held (documents_of s)
-  pub revisions_most_lem : revisions_held (documents_of s) ≤ revisions_most
+  pub revisions_at_most : revisions_held (documents_of s) ≤ revisions_most
   pub within : d < documents_most
 
 pub body_standing : (s : List ℕ) (d : ℕ) (b : Body) → IsBody s d b → BodyStanding s d b
@@ -130,6 +130,6 @@ body_standing s d b h =
       size = q.size;
       base = h.base;
       rows = omega (arith, h.rows, f.first_most);
-      «revisions_most_lem» = q.revisions_most_lem;
+      «revisions_at_most» = q.revisions_at_most;
       within = omega arith;
     }

@@ -114,9 +114,9 @@ module _ (r : Replica) (h : Storable r) where
       let f = document_fits ds d h.documents l in
       record {
         documents = all_modify FitsDocument d (set_seq q) ds no_document h.documents (record { id = f.id; seq = m; rows = f.rows });
-        «documents_most_lem» = rw (length-modify d (set_seq q) ds) h.documents_most_lem;
-        «revisions_most_lem» = rw (held_seq d q ds) h.revisions_most_lem;
-        «seq_most_lem» = m;
+        «documents_at_most» = rw (length-modify d (set_seq q) ds) h.documents_at_most;
+        «revisions_at_most» = rw (held_seq d q ds) h.revisions_at_most;
+        «seq_at_most» = m;
       }
 
 pub seq_holds : (s s₁ s₂ : List ℕ) (d p : ℕ) (q : Seq) → HasDocument s d → q.0 ≤ seq_most → p ≡ entry_place d
@@ -158,9 +158,9 @@ module _ (r : Replica) (h : Storable r) (at : ℕ) (i : Id) (place : at ≤ leng
       let docs = r.documents in
       record {
         documents = all_insert FitsDocument at (blank i) docs h.documents (record { id = short; seq = omega arith; rows = tt });
-        «documents_most_lem» = rw (length_insert at (blank i) docs place) (omega arith);
-        «revisions_most_lem» = rw (held_insert at (blank i) docs refl) h.revisions_most_lem;
-        «seq_most_lem» = h.seq_most_lem;
+        «documents_at_most» = rw (length_insert at (blank i) docs place) (omega arith);
+        «revisions_at_most» = rw (held_insert at (blank i) docs refl) h.revisions_at_most;
+        «seq_at_most» = h.seq_at_most;
       }
 
 pub document_holds : (s s₁ s₂ s₃ : List ℕ) (at : ℕ) (i : Id) (n p len : ℕ) → CanAddDocument s at i → n ≡ length (documents_of s) → p ≡ entry_place at → len ≡ (n - at) * entry_size

@@ -58,9 +58,9 @@ pub record Standing (s : List ℕ) : Type 0 where
   pub documents : (head_of s).documents ≡ length (documents_of s)
   pub revisions : (head_of s).revisions ≡ revisions_held (documents_of s)
   pub seq : (head_of s).seq ≡ (replica_of s).seq.0
-  pub documents_most_lem : length (documents_of s) ≤ documents_most
-  pub revisions_most_lem : revisions_held (documents_of s) ≤ revisions_most
-  pub seq_most_lem : (replica_of s).seq.0 ≤ seq_most
+  pub documents_at_most : length (documents_of s) ≤ documents_most
+  pub revisions_at_most : revisions_held (documents_of s) ≤ revisions_most
+  pub seq_at_most : (replica_of s).seq.0 ≤ seq_most
 
 pub standing : (s : List ℕ) → Laid s → Standing s
 standing s h = record {
@@ -68,9 +68,9 @@ standing s h = record {
   documents = ap (λ (x : List ℕ). (head_of x).documents) h.same ∙ documents_stored (replica_of s) h.fits;
   revisions = ap (λ (x : List ℕ). (head_of x).revisions) h.same ∙ revisions_stored (replica_of s) h.fits;
   seq = ap (λ (x : List ℕ). (head_of x).seq) h.same ∙ seq_stored (replica_of s) h.fits;
-  «documents_most_lem» = h.fits.documents_most_lem;
-  «revisions_most_lem» = h.fits.revisions_most_lem;
-  «seq_most_lem» = h.fits.seq_most_lem;
+  «documents_at_most» = h.fits.documents_at_most;
+  «revisions_at_most» = h.fits.revisions_at_most;
+  «seq_at_most» = h.fits.seq_at_most;
 }
 
 entry_stored : (r : Replica) (d : ℕ) → Storable r → d < length r.documents → part (entry_place d) entry_size (stored r) ≡ stored_entry (document_at r.documents d)

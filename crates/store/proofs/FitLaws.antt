@@ -69,10 +69,10 @@ unfolding document_of
 replica_fits r h = record {
   documents = both document r.documents
       (all_found bytes_order (λ (d : Id × Document). IsDocument r d.0 d.1) r.documents h.ascending h.documents)
-      (seqs_most r.documents seq_most (omega (arith, h.seq_largest, h.seq_most_lem)));
-  «documents_most_lem» = h.documents_most_lem;
-  «revisions_most_lem» = h.revisions_most_lem;
-  «seq_most_lem» = h.seq_most_lem;
+      (seqs_most r.documents seq_most (omega (arith, h.seq_largest, h.seq_at_most)));
+  «documents_at_most» = h.documents_at_most;
+  «revisions_at_most» = h.revisions_at_most;
+  «seq_at_most» = h.seq_at_most;
 }
   where
     document : (d : Id × Document) → IsDocument r d.0 d.1 → d.1.seq.0 ≤ seq_most → FitsDocument d

@@ -121,9 +121,9 @@ module _ (r : Replica) (h : Storable r) (d : ℕ) (l : d < length r.documents) w
       let x = document_fits ds d h.documents l in
       record {
         documents = all_modify FitsDocument d (set_tree f) ds no_document h.documents (record { id = x.id; seq = x.seq; rows = a });
-        «documents_most_lem» = rw (length-modify d (set_tree f) ds) h.documents_most_lem;
-        «revisions_most_lem» = m;
-        «seq_most_lem» = h.seq_most_lem;
+        «documents_at_most» = rw (length-modify d (set_tree f) ds) h.documents_at_most;
+        «revisions_at_most» = m;
+        «seq_at_most» = h.seq_at_most;
       }
 
   -- ---- a row goes in
@@ -214,7 +214,7 @@ module _ (r : Replica) (h : Storable r) (d : ℕ) (l : d < length r.documents) w
 
   set_fits : (i : ℕ) (v : Revision × Node) → FitsRow v → i < length t → Storable (with_tree d (λ u. set u i v) r)
   set_fits i v f k =
-      tree_fits (λ u. set u i v) (all_set FitsRow t i v (document_fits ds d h.documents l).rows f) (rw (held_set i v k) h.revisions_most_lem)
+      tree_fits (λ u. set u i v) (all_set FitsRow t i v (document_fits ds d h.documents l).rows f) (rw (held_set i v k) h.revisions_at_most)
 
 -- ---- the buffer
 

@@ -116,10 +116,10 @@ module _ (r : Replica) (h : Storable r) where
       ∙ ap (λ (n : ℕ). n * row_size) (length-map stored_row (rows_in r.documents) ∙ length-rows_in r.documents)
 
   pub size_contents : length (filled contents_room (join (stored_entries r.documents))) ≡ contents_room
-  size_contents = length-filled contents_room _ (omega (arith, size_entries, h.documents_most_lem))
+  size_contents = length-filled contents_room _ (omega (arith, size_entries, h.documents_at_most))
 
   pub size_table : length (filled rows_room (join (stored_rows r.documents))) ≡ rows_room
-  size_table = length-filled rows_room _ (omega (arith, size_rows, h.revisions_most_lem))
+  size_table = length-filled rows_room _ (omega (arith, size_rows, h.revisions_at_most))
 
   pub size_stored : length (stored r) ≡ store_size
   unfolding stored
@@ -138,15 +138,15 @@ module _ (r : Replica) (h : Storable r) where
 
   pub documents_stored : (head_of (stored r)).documents ≡ length r.documents
   unfolding stored
-  documents_stored = head_documents _ _ _ _ h.documents_most_lem
+  documents_stored = head_documents _ _ _ _ h.documents_at_most
 
   pub revisions_stored : (head_of (stored r)).revisions ≡ revisions_held r.documents
   unfolding stored
-  revisions_stored = head_revisions _ _ _ _ h.revisions_most_lem
+  revisions_stored = head_revisions _ _ _ _ h.revisions_at_most
 
   pub seq_stored : (head_of (stored r)).seq ≡ r.seq.0
   unfolding stored
-  seq_stored = head_seq _ _ _ _ h.seq_most_lem
+  seq_stored = head_seq _ _ _ _ h.seq_at_most
 
   entries_stored : entries_of (stored r) ≡ map entry_of (stored_entries r.documents)
   unfolding entries_of filled stored_entries
@@ -167,7 +167,7 @@ module _ (r : Replica) (h : Storable r) where
   unfolding replica_of
   stored_back =
       let d : documents_in node_held (entries_of (stored r)) (deal (entries_of (stored r)) (rows_held (stored r))) ≡ r.documents
-      = rw (entries_stored, rows_stored) (documents_back r.documents h.documents h.revisions_most_lem) in
+      = rw (entries_stored, rows_stored) (documents_back r.documents h.documents h.revisions_at_most) in
       let q = seq_stored in
       λ i. record { seq = record { 0 = q i }; documents = d i }
 
@@ -184,7 +184,7 @@ size_laid s h = ap length h.same ∙ size_stored (replica_of s) h.fits
 
 pub fresh_fits : Storable fresh
 unfolding revisions_held
-fresh_fits = record { documents = tt; «documents_most_lem» = omega arith; «revisions_most_lem» = omega arith; «seq_most_lem» = omega arith }
+fresh_fits = record { documents = tt; «documents_at_most» = omega arith; «revisions_at_most» = omega arith; «seq_at_most» = omega arith }
 
 pub fresh_stored : stored fresh ≡ replicate store_size 0
 unfolding stored stored_head stored_entries stored_rows rows_in revisions_held filled join be

@@ -84,9 +84,9 @@ pub record FitsDocument (d : Id × Document) : Type 0 where
 -- what a write passes through: not a replica yet, but with every field in its range
 pub record Storable (r : Replica) : Type 0 where
   pub documents : All FitsDocument r.documents
-  pub documents_most_lem : length r.documents ≤ documents_most
-  pub revisions_most_lem : revisions_held r.documents ≤ revisions_most
-  pub seq_most_lem : r.seq.0 ≤ seq_most
+  pub documents_at_most : length r.documents ≤ documents_most
+  pub revisions_at_most : revisions_held r.documents ≤ revisions_most
+  pub seq_at_most : r.seq.0 ≤ seq_most
 
 -- ---- buffers
 

@@ -174,10 +174,10 @@ alone_is r k d e n low high = record {
   ascending = (tt, tt);
   documents = λ i x f. (let t = find_alone lot i now x f in
       subst (λ (j : Id). IsDocument (alone n d.tree) j x) (sym t.0) (subst (λ (z : Document). IsDocument (alone n d.tree) lot z) (sym t.1) is));
-  documents_most_lem = omega arith;
-  revisions_most_lem = (let h = length-held r.documents (lot, d) (find_in bytes_order r.documents lot d e) in let m = k.revisions_most_lem in omega arith);
+  documents_at_most = omega arith;
+  revisions_at_most = (let h = length-held r.documents (lot, d) (find_in bytes_order r.documents lot d e) in let m = k.revisions_at_most in omega arith);
   seq_largest = omega arith;
-  seq_most_lem = high;
+  seq_at_most = high;
 }
   where
     now : Document

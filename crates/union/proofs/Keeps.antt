@@ -216,7 +216,7 @@ module _ (r : Replica) (w : Write) (k : IsReplica r) where
           let b = leb-false documents_most (length r.documents) f in
           omega (arith, a)
       go (some d) e f =
-          let a = length_alter_some bytes_order w.id (λ o. now r w) r.documents d e in let b = k.documents_most_lem in omega (arith, a)
+          let a = length_alter_some bytes_order w.id (λ o. now r w) r.documents d e in let b = k.documents_at_most in omega (arith, a)
 
   added_revisions : low_number w ≡ false → revisions_full r w ≡ false → length r.documents ≤ documents_most → revisions_held (added r w).documents ≤ revisions_most
   unfolding revisions_full
@@ -242,10 +242,10 @@ added_keeps r w k q ok new =
         seq_least = added_least r w k i d e;
         seq_own = added_own r w k i d e;
       };
-      documents_most_lem = added_documents r w k ok.six;
-      revisions_most_lem = added_revisions r w k ok.form.number_ok ok.seven k.documents_most_lem;
+      documents_at_most = added_documents r w k ok.six;
+      revisions_at_most = added_revisions r w k ok.form.number_ok ok.seven k.documents_at_most;
       seq_largest = (unfold added in added_largest r w k);
-      seq_most_lem = (unfold added in seq_room (adds r w) r.seq.0 ok.eight new k.seq_most_lem);
+      seq_at_most = (unfold added in seq_room (adds r w) r.seq.0 ok.eight new k.seq_at_most);
     }
   where
     holds : Holds (added r w) (Own r ⊎w w)
@@ -265,10 +265,10 @@ unfolding document_of find revisions_held largest_seq
 fresh_is_replica = record {
   ascending = tt;
   documents = λ i d e. absurd (none≢some e);
-  documents_most_lem = omega arith;
-  revisions_most_lem = omega arith;
+  documents_at_most = omega arith;
+  revisions_at_most = omega arith;
   seq_largest = refl;
-  seq_most_lem = omega arith;
+  seq_at_most = omega arith;
 }
 
 pub writes_keep : (ws : List Write) → ((w : Write) → In w ws → IsWrite w) → (r : Replica) → IsReplica r → IsReplica (write_all ws r)

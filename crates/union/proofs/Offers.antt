@@ -376,7 +376,7 @@ module _ (r : Replica) (k : IsReplica r) where
       let fits = path_in_tree d.tree h.tree n a.rev c.0 c.1 refl in
       let all = up_to_all n d.tree in
       let size = length-held r.documents (i, d) j in
-      let room = k.revisions_most_lem in
+      let room = k.revisions_at_most in
       omega arith
 
   -- each is well_formed

@@ -154,7 +154,7 @@ fits_if ws a b = record {
   ids_most = a;
   ids_all = λ i v m. (let n = m.1 in subst (λ (z : Id). In z (ids_of ws)) n.2 (in_ids ws n.0 n.1));
   revisions = revisions_of ws;
-  revisions_most_lem = b;
+  revisions_at_most = b;
   revisions_all = λ i v m. (let n = m.1 in subst (λ (z : Id). In (z, v) (revisions_of ws)) n.2 (in_revisions ws n.0 (v, m.0) n.1 n.3));
 }
 

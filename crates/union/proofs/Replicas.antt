@@ -130,7 +130,7 @@ pub revisions_fit : (r : Replica) (G : Givens) → Holds r G → Fits (things G)
 unfolding document_of
 revisions_fit r G a f =
     let h = total_fits r.documents a.ascending (λ x m. (doc x m).0.ascending) f.revisions (λ x m e i. go x m e i) in
-    let k = f.revisions_most_lem in
+    let k = f.revisions_at_most in
     omega arith
   where
     doc : (x : Id × Document) → In x r.documents → DocAt (some x.1) (G x.0)

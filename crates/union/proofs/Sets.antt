@@ -71,7 +71,7 @@ fits_within g h k f = record {
   ids_most = f.ids_most;
   ids_all = λ i v m. f.ids_all i v (k.revisions i v m);
   revisions = f.revisions;
-  revisions_most_lem = f.revisions_most_lem;
+  revisions_at_most = f.revisions_at_most;
   revisions_all = λ i v m. f.revisions_all i v (k.revisions i v m);
 }
 

@@ -61,7 +61,7 @@ module _ (all : List Write) (k : (w : Write) → In w all → WellFormed w) (c :
   sound_room : (r : Replica) → IsReplica r → SeqSuffices (offers all_from r) (write_all ws fresh)
   sound_room r kr =
       suffices_room (offers all_from r) (write_all ws fresh)
-      (let s = seq_twice ws in let n = offers_most all_from r in let x = sound.revisions_most_lem in let y = kr.revisions_most_lem in omega arith)
+      (let s = seq_twice ws in let n = offers_most all_from r in let x = sound.revisions_at_most in let y = kr.revisions_at_most in omega arith)
 
 pub two_way_made : (us vs : List Write) → ((w : Write) → In w (us ++ vs) → WellFormed w) → Compatible (given (us ++ vs)) → Fits (given (us ++ vs))
     → Agreed (write_all us fresh) (write_all vs fresh)

@@ -92,5 +92,5 @@ good_form w e =
       most = z;
       deep = n;
       id_least = positive (length w.id) u;
-      id_most_lem = v;
+      id_at_most = v;
     }

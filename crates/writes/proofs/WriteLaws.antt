@@ -180,7 +180,7 @@ few_revisions t w p g e =
     count_most t (g ∷ gs) = let h = count_most t gs in let o = one_most (is_new t g) in omega arith
 
 seq_left : (r : Replica) (absent : Bool) (p : Plan) → IsReplica r → Clear r absent p → (p.reach ≡ 0 → ⊥) → r.seq.0 < seq_most
-seq_left r absent p i k z = below r.seq.0 seq_most i.seq_most_lem (k.seq z)
+seq_left r absent p i k z = below r.seq.0 seq_most i.seq_at_most (k.seq z)
   where
     below : (a b : ℕ) → a ≤ b → (a ≡ b → ⊥) → a < b
     below a b h n = omega arith
@@ -328,7 +328,7 @@ module _ {s : List ℕ} {f : Found} {w : Write} {b : Body} {p : Plan} {m : ℕ} 
     no_tree = none_tree_of (replica_of s) w d newest gap
 
     pub new_can_add : CanAddDocument s d w.id
-    new_can_add = record { laid = bytes_laid; place = gap.within; room = ready.clear.documents (ap is_absent here); id = form.id_most_lem }
+    new_can_add = record { laid = bytes_laid; place = gap.within; room = ready.clear.documents (ap is_absent here); id = form.id_at_most }
 
     module _ {s₁ : List ℕ} (opened : Holds (with_document d w.id (replica_of s)) s₁) where
       docs_are : documents_of s₁ ≡ insert_at d (blank w.id) (documents_of s)

@@ -64,4 +64,4 @@ pub record GoodForm (w : Write) : Type 0 where
   pub most : count_of w.path ≤ hashes_most
   pub deep : count_of w.path ≤ w.number.0
   pub id_least : 1 ≤ length w.id
-  pub id_most_lem : length w.id ≤ id_most
+  pub id_at_most : length w.id ≤ id_most

@@ -17,6 +17,6 @@ holds_replica-requires c =
       size = c.if-b-ne-SIZE.false;
       documents = c.documents-d.ensures.is;
       revisions = c.revisions-r.ensures.is;
-      «documents_most_lem» = c.if-d-gt-DOCUMENTS.false;
-      «revisions_most_lem» = c.if-r-gt-REVISIONS.false;
+      «documents_at_most» = c.if-d-gt-DOCUMENTS.false;
+      «revisions_at_most» = c.if-r-gt-REVISIONS.false;
     }

@@ -10,11 +10,11 @@ pub put_head-next-requires : goal.put_head-next-requires
 put_head-next-requires c = record { laid = stored_laid _ c.requires.stored; room = omega (arith, c.requires.room) }
 
 pub put_lines-requires : goal.put_lines-requires
-put_lines-requires c = record { stored = c.requires.stored; room = omega (arith, c.requires.room, c.requires.stored.replica.documents_most_lem, c.put_head-next.ensures.most) }
+put_lines-requires c = record { stored = c.requires.stored; room = omega (arith, c.requires.room, c.requires.stored.replica.documents_at_most, c.put_head-next.ensures.most) }
 
 pub returns : goal.returns
 returns c =
-    let m = c.requires.stored.replica.documents_most_lem in
+    let m = c.requires.stored.replica.documents_at_most in
     record {
       put =
           put_as (replica_joined (replica_of c.args.b.now))
