@@ -1,4 +1,4 @@
--- `json::can_end` meets its contract. Assumes nothing.
+-- `json_text::can_end` meets its contract. Assumes nothing.
 use mathlib.Core.Path.{refl}
 use mathlib.Core.Logic.{inl, inr}
 use native.Mathlib.Omega.{arith}
@@ -31,7 +31,7 @@ pub returns-then-b-eq58 : goal.returns-then-b-eq58
 unfolding Follow
 returns-then-b-eq58 c =
     let a = c.args in
-    ends_byte a.s.now a.at 58 c.if-b-eq58.true (omega arith) (inr (inr (inr (inr (inr (inr (inr refl)))))))
+    ends_byte a.s.now a.at 58 (omega (arith, c.if-b-eq58.true)) (omega arith) (inr (inr (inr (inr (inr (inr (inr refl)))))))
 
 pub returns : goal.returns
 returns c =

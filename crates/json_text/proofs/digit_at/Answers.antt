@@ -1,4 +1,4 @@
--- `json::digit_at` meets its contract. Assumes nothing.
+-- `json_text::digit_at` meets its contract. Assumes nothing.
 use Rattle.json_text.proofs.NumberLaws.{digit_yes, digit_no}
 use native.Mathlib.Omega.{arith}
 use Rattle.json_text.proofs.digit_at.Goals as goal

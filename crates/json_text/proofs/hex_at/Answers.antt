@@ -1,4 +1,4 @@
--- `json::hex_at` meets its contract. Assumes nothing.
+-- `json_text::hex_at` meets its contract. Assumes nothing.
 use Rattle.json_text.specs.Grammar.{range, ◌or◌, hex}
 use Rattle.json_text.proofs.CharLaws.{here_not, here_or, here_or_2, here_last}
 use Rattle.json_text.proofs.hex_at.Goals as goal

@@ -1,4 +1,4 @@
--- `json::in_range` meets its contract. Assumes nothing.
+-- `json_text::in_range` meets its contract. Assumes nothing.
 use Rattle.json_text.proofs.CharLaws.{range_yes, range_no}
 use native.Mathlib.Omega.{arith}
 use Rattle.json_text.proofs.in_range.Goals as goal

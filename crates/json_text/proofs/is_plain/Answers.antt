@@ -1,4 +1,4 @@
--- `json::is_plain` meets its contract. Assumes nothing.
+-- `json_text::is_plain` meets its contract. Assumes nothing.
 use Rattle.json_text.proofs.PlainLaws.{plain_test}
 use Rattle.json_text.proofs.is_plain.Goals as goal
 

@@ -1,4 +1,4 @@
--- `json::one_of` meets its contract. Assumes nothing.
+-- `json_text::one_of` meets its contract. Assumes nothing.
 use mathlib.Core.Logic.{inl, inr}
 use Rattle.json_text.proofs.NumberLaws.{two_yes, two_no}
 use mathlib.Core.Path.{refl, sym, ◌∙◌}

@@ -1,4 +1,4 @@
--- `json::peek` meets its contract. Assumes nothing.
+-- `json_text::peek` meets its contract. Assumes nothing.
 use mathlib.Core.Path.{sym}
 use lib.ListN.{get_or-eq_default}
 use Rattle.json_text.proofs.peek.Goals as goal

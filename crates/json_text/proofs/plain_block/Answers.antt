@@ -1,4 +1,4 @@
--- `json::plain_block` meets its contract. The loop's invariant: if no other byte was met, those passed are plain.
+-- `json_text::plain_block` meets its contract. The loop's invariant: if no other byte was met, those passed are plain.
 use mathlib.Core.Path.{◌≡◌}
 use Prim.Native.Nat.{◌+◌}
 use native.Mathlib.Omega.{arith}

@@ -1,4 +1,4 @@
--- `json::plain_block` meets its contract. The loop's invariant: if no other byte was met, those passed are plain.
+-- `json_text::plain_block` meets its contract. The loop's invariant: if no other byte was met, those passed are plain.
 use Prim.Native.Nat.{◌+◌, ◌-◌, ◌≤◌}
 use Rattle.json_text.specs.Skips.{PlainTo, IfSo}
 use Rattle.json_text.proofs.plain_block.Given as goal

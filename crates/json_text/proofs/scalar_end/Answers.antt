@@ -1,4 +1,4 @@
--- `json::scalar_end` meets its contract. Assumes nothing.
+-- `json_text::scalar_end` meets its contract. Assumes nothing.
 use Rattle.json_text.specs.Grammar.{string}
 use Rattle.json_text.proofs.CharLaws.{exact_skips}
 use Rattle.json_text.proofs.ScalarLaws.{scalar_string, scalar_literal, scalar_number}

@@ -1,4 +1,4 @@
--- `json::simple_at` meets its contract. Assumes nothing.
+-- `json_text::simple_at` meets its contract. Assumes nothing.
 use Rattle.json_text.specs.Grammar.{byte, ◌or◌, simple}
 use Rattle.json_text.proofs.CharLaws.{here_not, here_or, here_or_2, here_last}
 use Rattle.json_text.proofs.simple_at.Goals as goal

@@ -1,4 +1,4 @@
--- `json::skip_blocks` meets its contract. Assumes nothing.
+-- `json_text::skip_blocks` meets its contract. Assumes nothing.
 use mathlib.Core.Path.{refl}
 use Prim.Native.Nat.{◌+◌}
 use native.Mathlib.Omega.{arith}

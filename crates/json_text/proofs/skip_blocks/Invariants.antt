@@ -1,4 +1,4 @@
--- `json::skip_blocks` meets its contract. Assumes nothing.
+-- `json_text::skip_blocks` meets its contract. Assumes nothing.
 use Prim.Native.Nat.{◌-◌}
 use lib.ListN.{length}
 use Rattle.json_text.specs.Skips.{PlainTo}

@@ -1,4 +1,4 @@
--- `json::skip_char` meets its contract. Assumes nothing.
+-- `json_text::skip_char` meets its contract. Assumes nothing.
 use Prim.Native.Nat.{◌+◌}
 use Rattle.json_text.proofs.WsLaws.{stands}
 use Rattle.json_text.specs.Grammar.{◌then◌, utf8, hex, char}

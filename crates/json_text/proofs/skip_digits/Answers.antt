@@ -1,4 +1,4 @@
--- `json::skip_digits` meets its contract. Assumes nothing.
+-- `json_text::skip_digits` meets its contract. Assumes nothing.
 use Rattle.json_text.specs.Grammar.{none, more}
 use Rattle.json_text.proofs.WsLaws.{many_join}
 use native.Mathlib.Omega.{arith}

@@ -1,4 +1,4 @@
--- `json::skip_digits` meets its contract. Assumes nothing.
+-- `json_text::skip_digits` meets its contract. Assumes nothing.
 use Rattle.json_text.specs.Grammar.{digit, many}
 use lib.ListN.{length, drop}
 use Prim.Native.Nat.{◌≤◌, ◌-◌}

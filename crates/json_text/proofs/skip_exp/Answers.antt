@@ -1,4 +1,4 @@
--- `json::skip_exp` meets its contract. Assumes nothing.
+-- `json_text::skip_exp` meets its contract. Assumes nothing.
 use Prim.Native.Nat.{◌+◌}
 use Rattle.json_text.specs.Grammar.{byte, ◌or◌, option, some, digit, exp}
 use Rattle.json_text.proofs.StepLaws.{skips_runs}

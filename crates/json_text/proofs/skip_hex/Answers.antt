@@ -1,4 +1,4 @@
--- `json::skip_hex` meets its contract. Assumes nothing.
+-- `json_text::skip_hex` meets its contract. Assumes nothing.
 use Rattle.json_text.specs.declared.Skip.TheVariants.{To, Wrong}
 use Prim.Native.Nat.{◌+◌}
 use Rattle.json_text.specs.Grammar.{◌then◌, hex}

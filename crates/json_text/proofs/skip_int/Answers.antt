@@ -1,10 +1,10 @@
--- `json::skip_int` meets its contract. Assumes nothing.
+-- `json_text::skip_int` meets its contract. Assumes nothing.
 use Prim.Native.Nat.{◌+◌}
 use Rattle.json_text.proofs.WsLaws.{stands}
 use Rattle.json_text.specs.Grammar.{◌then◌, option, int, frac, exp}
 use Rattle.json_text.proofs.StepLaws.{skips_runs}
 use Rattle.json_text.proofs.NumberLaws.{int_zero, int_wrong, int_some, some_to, some_wrong}
-use mathlib.Core.Path.{sym, ◌∙◌}
+use mathlib.Core.Path.{◌≡◌, sym, ◌∙◌}
 use native.Mathlib.Omega.{arith}
 use Rattle.json_text.proofs.skip_int.Goals as goal
 
@@ -31,8 +31,9 @@ returns-then-peek-eq48 c =
     let b = c.peek in
     let a = c.args in
     let s = a.s.now in
+    let e : b.result ≡ 48 = omega (arith, if1.true) in
     skips_runs (int then option frac then option exp) (option frac then option exp) s a.at (a.at + 1)
-    (int_zero s a.at (sym b.ensures ∙ if1.true)) skip-frac.result skip-frac.ensures
+    (int_zero s a.at (sym b.ensures ∙ e)) skip-frac.result skip-frac.ensures
 
 pub returns-in_default : goal.returns-in_default
 returns-in_default c =

@@ -1,4 +1,4 @@
--- `json::skip_literal` meets its contract. Assumes nothing.
+-- `json_text::skip_literal` meets its contract. Assumes nothing.
 use Rattle.json_text.proofs.WsLaws.{stands}
 use Rattle.json_text.proofs.LiteralLaws.{Word, lit_false, lit_null, lit_true}
 use mathlib.Core.Path.{sym, ◌∙◌}

@@ -1,4 +1,4 @@
--- `json::skip_plain` meets its contract. Assumes nothing.
+-- `json_text::skip_plain` meets its contract. Assumes nothing.
 use native.Mathlib.Omega.{arith}
 use Rattle.json_text.proofs.PlainLaws.{plain_next}
 use Rattle.json_text.proofs.skip_plain.Goals as goal

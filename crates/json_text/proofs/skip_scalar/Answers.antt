@@ -1,4 +1,4 @@
--- `json::skip_scalar` meets its contract. Assumes nothing.
+-- `json_text::skip_scalar` meets its contract. Assumes nothing.
 use Rattle.json_text.specs.Grammar.{scalar}
 use Rattle.json_text.proofs.PlaceLaws.{placed_yes, placed_no, placed_wrong}
 use Rattle.json_text.proofs.skip_scalar.Goals as goal

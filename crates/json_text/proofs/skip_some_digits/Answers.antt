@@ -1,4 +1,4 @@
--- `json::skip_some_digits` meets its contract. Assumes nothing.
+-- `json_text::skip_some_digits` meets its contract. Assumes nothing.
 use Rattle.json_text.specs.Grammar.{digit}
 use Rattle.json_text.proofs.NumberLaws.{some_digits, here_yes, here_no}
 use native.Mathlib.Omega.{arith}

@@ -1,4 +1,4 @@
--- `json::skip_string` meets its contract. The loop's invariant: what is left of the string is what stands at i.
+-- `json_text::skip_string` meets its contract. The loop's invariant: what is left of the string is what stands at i.
 use mathlib.Core.Path.{sym, ◌∙◌}
 use Prim.Native.Nat.{◌+◌}
 use native.Mathlib.Omega.{arith}

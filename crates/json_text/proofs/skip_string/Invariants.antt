@@ -1,4 +1,4 @@
--- `json::skip_string` meets its contract. The loop's invariant: what is left of the string is what stands at i.
+-- `json_text::skip_string` meets its contract. The loop's invariant: what is left of the string is what stands at i.
 use Prim.Native.Nat.{◌-◌, ◌≤◌}
 use lib.ListN.{length}
 use Rattle.json_text.specs.Grammar.{byte, ◌then◌, many, char, string}

@@ -1,4 +1,4 @@
--- `json::skip_three` meets its contract. Assumes nothing.
+-- `json_text::skip_three` meets its contract. Assumes nothing.
 use Prim.Native.Nat.{◌+◌}
 use Rattle.json_text.specs.Grammar.{range, ◌then◌, tail}
 use Rattle.json_text.proofs.CharLaws.{exact_leads, not_then, one_range, here_leads, here_not, here_in}

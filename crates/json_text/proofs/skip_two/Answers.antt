@@ -1,4 +1,4 @@
--- `json::skip_two` meets its contract. Assumes nothing.
+-- `json_text::skip_two` meets its contract. Assumes nothing.
 use Rattle.json_text.specs.declared.Skip.TheVariants.{To, Wrong}
 use Prim.Native.Nat.{◌+◌}
 use Rattle.json_text.specs.Grammar.{range, ◌then◌}

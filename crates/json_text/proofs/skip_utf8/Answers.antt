@@ -1,4 +1,4 @@
--- `json::skip_utf8` meets its contract. Assumes nothing.
+-- `json_text::skip_utf8` meets its contract. Assumes nothing.
 use Rattle.json_text.specs.Grammar.{tail, utf8}
 use Rattle.json_text.proofs.CharLaws.{exact_leads, utf8_two_lem, utf8_three_lem, utf8_four_lem}
 use native.Mathlib.Omega.{arith}

@@ -1,4 +1,4 @@
--- `json::skip_utf8_four` meets its contract. Assumes nothing.
+-- `json_text::skip_utf8_four` meets its contract. Assumes nothing.
 use Rattle.json_text.specs.Grammar.{tail, utf8_four}
 use Rattle.json_text.proofs.CharLaws.{exact_leads, four_1, four_2, four_3}
 use native.Mathlib.Omega.{arith}

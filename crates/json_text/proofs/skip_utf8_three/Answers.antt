@@ -1,4 +1,4 @@
--- `json::skip_utf8_three` meets its contract. Assumes nothing.
+-- `json_text::skip_utf8_three` meets its contract. Assumes nothing.
 use Rattle.json_text.specs.Grammar.{tail, utf8_three}
 use Rattle.json_text.proofs.CharLaws.{exact_leads, three_1, three_2, three_3, three_4}
 use native.Mathlib.Omega.{arith}

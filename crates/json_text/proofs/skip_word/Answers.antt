@@ -1,4 +1,4 @@
--- `json::skip_word` meets its contract. Assumes nothing.
+-- `json_text::skip_word` meets its contract. Assumes nothing.
 use Rattle.json_text.proofs.LiteralLaws.{Word, word_ends, word_wrong}
 use mathlib.Core.Path.{sym, ◌∙◌}
 use Rattle.json_text.proofs.skip_word.Goals as goal

@@ -1,4 +1,4 @@
--- `json::skip_ws` meets its contract. Assumes nothing.
+-- `json_text::skip_ws` meets its contract. Assumes nothing.
 use Rattle.json_text.specs.Grammar.{ws, none, more}
 use native.Mathlib.Omega.{arith}
 use Rattle.json_text.proofs.WsLaws.{many_join}

@@ -1,4 +1,4 @@
--- `json::skip_ws` meets its contract. Assumes nothing.
+-- `json_text::skip_ws` meets its contract. Assumes nothing.
 use Rattle.json_text.specs.Grammar.{ws}
 use lib.ListN.{length, drop}
 use Prim.Native.Nat.{◌≤◌, ◌-◌}

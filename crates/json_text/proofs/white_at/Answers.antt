@@ -1,5 +1,5 @@
--- `json::white_at` meets its contract. Assumes nothing.
-use mathlib.Core.Path.{refl, sym, ◌∙◌}
+-- `json_text::white_at` meets its contract. Assumes nothing.
+use mathlib.Core.Path.{◌≡◌, refl, sym, ◌∙◌}
 use mathlib.Core.Logic.{inl, inr}
 use native.Mathlib.Omega.{arith}
 use Rattle.json_text.proofs.WsLaws.{white_yes, white_no, white_high}
@@ -24,7 +24,8 @@ returns-then-b-eq9 c =
 pub returns-then-b-eq10 : goal.returns-then-b-eq10
 returns-then-b-eq10 c =
     let a = c.args in
-    white_yes a.s.now a.at 10 (sym c.peek-b.ensures ∙ c.if-b-eq10.true) (omega arith) (inr (inr (inl refl)))
+    let e : c.peek-b.result ≡ 10 = omega (arith, c.if-b-eq10.true) in
+    white_yes a.s.now a.at 10 (sym c.peek-b.ensures ∙ e) (omega arith) (inr (inr (inl refl)))
 
 pub returns-then-b-eq13 : goal.returns-then-b-eq13
 returns-then-b-eq13 c =

@@ -1,5 +1,5 @@
 -- `values::after_item` meets its contract. Assumes nothing.
-use mathlib.Core.Path.{refl, sym, ◌∙◌}
+use mathlib.Core.Path.{◌≡◌, refl, sym, ◌∙◌}
 use native.Mathlib.Omega.{arith}
 use Rattle.json_text.proofs.WsLaws.{stands}
 use Rattle.values.proofs.after_item.Goals as goal
@@ -18,7 +18,8 @@ skip_ws-requires c =
 pub returns-then-b-eq44 : goal.returns-then-b-eq44
 returns-then-b-eq44 c =
     let i = c.skip_ws-i in
-    record { comma = i.result; white = i.ensures; is = sym c.peek-b.ensures ∙ c.if-b-eq44.true; spaces = c.skip_ws.ensures }
+    let e : c.peek-b.result ≡ 44 = omega (arith, c.if-b-eq44.true) in
+    record { comma = i.result; white = i.ensures; is = sym c.peek-b.ensures ∙ e; spaces = c.skip_ws.ensures }
 
 pub returns : goal.returns
 returns c =

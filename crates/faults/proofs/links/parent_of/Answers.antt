@@ -10,7 +10,8 @@ use Rattle.faults.proofs.links.parent_of.Goals as goal
 pub returns-then-known-eq0 : goal.returns-then-known-eq0
 returns-then-known-eq0 c =
     let a = c.args in
-    parent_none a.base a.j a.run a.s.now (sym c.known.ensures.is ∙ c.if-known-eq0.true)
+    let e : c.known.result ≡ 0 = omega (arith, c.if-known-eq0.true) in
+    parent_none a.base a.j a.run a.s.now (sym c.known.ensures.is ∙ e)
 
 pub overflow_sub-below : goal.overflow_sub-below
 overflow_sub-below c =
