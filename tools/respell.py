@@ -116,6 +116,32 @@ def table():
     return out, names, moved
 
 
+# the code of a line, and the comment after it
+PARTS = {
+    ".antt": re.compile(r"()(.*?)((?:^|(?<=\s))--.*)?\n?\Z"),
+    ".rt": re.compile(r"()((?:[^\"/\n]|\"(?:[^\"\\\n]|\\.)*\"|/(?!/))*)(//.*)?\n?\Z"),
+    ".edit": re.compile(r"(file:.*|# name:.*)?([^#\n].*)?(#.*)?\n?\Z"),
+}
+
+
+def turned_text(text, path, new, moved={}):
+    """The code of a file, and of its comments the spans of code and the facts that an edit fails by: the words and
+    quotations of a comment stay."""
+    parts, out = PARTS[os.path.splitext(path)[1]], []
+    for line in text.splitlines(keepends=True):
+        kept, code, comment = (g or "" for g in parts.match(line).groups())
+        if path.endswith(".rt"):
+            code = re.sub(r'"(?:[^"\\\n]|\\.)*"|[^"]+', lambda m: m.group(0) if m.group(0)[0] == '"' else respelled(m.group(0), new), code)
+        else:
+            code = respelled(code, new, moved)
+        if comment.startswith("# fails:"):
+            comment = respelled(comment, new)
+        else:
+            comment = re.sub(r"`[^`\n]+`", lambda s: respelled(s.group(0), new), comment)
+        out.append(kept + code + comment + line[len(line.rstrip("\n")) :])
+    return "".join(out)
+
+
 def respelled(text, new, moved={}):
     def one(m):
         if m.group(0) in moved and not (m.start() and text[m.start() - 1] == "."):
@@ -158,12 +184,10 @@ def main():
     changed = 0
     for p in files(["specs/**/*.antt", "proofs/**/*.antt", "src/**/*.rt", "must-fail/*.edit"]):
         old = open(p, encoding="utf-8").read()
-        if p.endswith(".rt"):
-            text = re.sub(r'"(?:[^"\\\n]|\\.)*"|[^"]+|"', lambda m: m.group(0) if m.group(0).startswith('"') else respelled(m.group(0), new), old)
-        elif p.endswith(".edit"):
-            text = "".join(l if re.match(r"# name:|file:", l) else respelled(l, new) for l in old.splitlines(keepends=True))
+        if p.endswith(".antt"):
+            text = turned_text(old, p, new, moved_in(p, old, moved, home))
         else:
-            text = respelled(old, new, moved_in(p, old, moved, home))
+            text = turned_text(old, p, new)
         before = set(TOKEN.findall(old))
         for a in sorted(before & new.keys()):
             if new[a] in before:

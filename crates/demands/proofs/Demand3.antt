@@ -57,7 +57,7 @@ module _ {ws : List Write} {left : List ℕ} (m : Made ws left) where
   pub left_is : replica_of left ≡ write_all ws fresh
   left_is = pulls.left_is ws m.made left made_fresh made_wrote
 
-  -- well_formed writes that agree and fit are none of them refused, and the bytes left hold exactly the union
+  -- well-formed writes that agree and fit are none of them refused, and the bytes left hold exactly the union
   pub union_of_writes : ((w : Write) → In w ws → WellFormed w) → Compatible (given ws) → Fits (given ws)
       → NoneRefused ws m.made left m.writes × IsUnion (replica_of left) (given ws)
   unfolding made_wrote

@@ -2,7 +2,7 @@
 use Rattle.std.specs.Prelude.{◌≡◌, List, ◌∷◌, ◌⊎◌, ℕ, ◌≤◌}
 
 -- A rule of the grammar. P a b: the bytes a are a text of the rule P and then b. No rule looks at b
--- (`json:BlindLaws.line_blind`), so that P tells which bytes are a text of it.
+-- (`json_text:BlindLaws.line_blind`), so that P tells which bytes are a text of it.
 abbrev pub Rule : Type 1
 Rule = List ℕ → List ℕ → Type 0
 

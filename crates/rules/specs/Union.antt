@@ -96,7 +96,7 @@ pub record IsWrite (w : Write) : Type 0 where
   pub path : Bytes w.path
   pub content : IsContent w.content
 
--- "A write is well_formed if 1 to 3 below don't refuse it."
+-- "A write is well-formed if 1 to 3 below don't refuse it."
 pub record WellFormed (w : Write) : Type 0 where
   pub write : IsWrite w
   pub form : first_that (form_refusals w) ≡ none

@@ -161,7 +161,7 @@ revisions_full r w = ltb revisions_most (revisions_held r.documents + count_new 
 unfoldable pub sequence_spent : Replica → Write → Bool
 sequence_spent r w = adds r w && eqb r.seq.0 seq_most
 
--- "A write is well_formed if 1 to 3 below don't refuse it."
+-- "A write is well-formed if 1 to 3 below don't refuse it."
 abbrev pub form_refusals : Write → List (Bool × Refusal)
 form_refusals w = (bad_id w.id, BadId) ∷ (bad_path w, BadPath) ∷ (low_number w, LowNumber) ∷ []
 

@@ -122,7 +122,7 @@ leaves_descend r k i = leafs.leaves_descend (tree_of r i) (own.ascending_own r k
 -- ---- writes in any order
 
 -- "its revisions and parents are all of those, its leaves are the revisions with no child in it,
--- each with the content it was given": well_formed writes that agree and fit are all accepted, from
+-- each with the content it was given": well-formed writes that agree and fit are all accepted, from
 -- fresh and in the order given, and leave exactly the union. No sequence is asked for.
 pub union_of_writes : (ws : List Write) → ((w : Write) → In w ws → WellFormed w) → Compatible (given ws) → Fits (given ws)
     → AllAccepted ws fresh × IsUnion (write_all ws fresh) (given ws)

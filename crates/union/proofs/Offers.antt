@@ -1,4 +1,4 @@
--- The offers of a replica give exactly what it holds, and each is a well_formed write. Assumes nothing.
+-- The offers of a replica give exactly what it holds, and each is a well-formed write. Assumes nothing.
 use mathlib.Core.Path.{◌≡◌, refl, sym, ap, ◌∙◌, subst}
 use mathlib.Core.Bool.{Bool, true, false, true≢false}
 use mathlib.Core.List.{List, [], ◌∷◌}
@@ -379,7 +379,7 @@ module _ (r : Replica) (k : IsReplica r) where
       let room = k.revisions_at_most in
       omega arith
 
-  -- each is well_formed
+  -- each is well-formed
   pub offers_well : (s : Seq) (w : Write) → In w (offers s r) → Well w
   unfolding offer path_of ancestry low_number
   offers_well s w m = let l = from_leaf s w m in subst Well (sym l.offered) (go l.id l.document l.in_replica l.is l.leaf l.content)

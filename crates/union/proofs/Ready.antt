@@ -1,4 +1,4 @@
--- One computed test of the hypotheses on a list of writes: well_formed, compatible, and fitting the room. Assumes nothing.
+-- One computed test of the hypotheses on a list of writes: well-formed, compatible, and fitting the room. Assumes nothing.
 use mathlib.Core.Path.{◌≡◌, refl, sym, ap, ◌∙◌, subst}
 use mathlib.Core.Bool.{Bool, true, false, not, ◌&&◌, ◌||◌, true≢false}
 use mathlib.Core.List.{List, [], ◌∷◌}
@@ -31,7 +31,7 @@ use Rattle.union.proofs.Trees.{Entry}
 use Rattle.union.proofs.Sets.{compatible_within, fits_within}
 use Rattle.union.proofs.Orders.{part}
 
--- ---- well_formed
+-- ---- well-formed
 
 unfoldable pub not_bytes : List ℕ → Bool
 not_bytes s = any (leb 256) s

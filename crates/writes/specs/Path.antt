@@ -56,7 +56,7 @@ unfoldable pub add_last : List (Revision × Node) → Tree → Tree
 add_last [] t = t
 add_last (g ∷ gs) t = alter order_rev g.0 (learn g.1) (add_last gs t)
 
--- ---- "A write is well_formed if 1 to 3 below don't refuse it": its sizes
+-- ---- "A write is well-formed if 1 to 3 below don't refuse it": its sizes
 
 pub record GoodForm (w : Write) : Type 0 where
   pub size : length w.path ≡ count_of w.path * hash_size
