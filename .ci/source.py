@@ -12,6 +12,10 @@ TOKEN = re.compile(
     re.X | re.S,
 )
 STATED = {"requires", "ensures", "measure"}
+# A ghost member of a trait or of its instance, up to what it states; and what no such statement may hold,
+# since code could hide behind it.
+GHOST = re.compile(r"\s+\w+\s*[:=]")
+HIDES = re.compile(r"""\bfn\b|"|--|\{-|//|'.?[{}]""")
 CLAUSES = STATED | {"where", "{", ";"}
 BEFORE_FN = {"pub", "crate", "super", "self", "in", "const", "unsafe", "async", "extern", "(", ")", "::"}
 
@@ -40,7 +44,12 @@ def tokens(path, fault):
         if word in "/#" and rest in ("*", "!") or word in ("r", "br") and rest in ('"', "#") or word in ('"', "macro_rules", "include"):
             fault(path, f"`{word}{rest}` is not read by this check")
         if word == "ghost" and not re.match(r"\s+use\b[^;]*;", text[at:]):
-            fault(path, f"`ghost{text[at : at + 20]}` is not read by this check")
+            member = GHOST.match(text, at)
+            found = stated(text, member.end()) if member else None
+            if not found or HIDES.search(text[found[0] : found[1]]):
+                fault(path, f"`ghost{text[at : at + 20]}` is not read by this check")
+            else:
+                at = found[1]
         out.append(("text", word) if kind == "text" else (kind, word))
         if word in STATED:
             found = stated(text, at)
@@ -48,19 +57,29 @@ def tokens(path, fault):
                 fault(path, f"`{word}` is not followed by what it states")
                 continue
             fact, at = text[found[0] : found[1]], found[1]
-            if re.search(r"""\bfn\b|"|--|\{-|//|'.?[{}]""", fact):
+            if HIDES.search(fact):
                 fault(path, f"a fact that can't be told from code: {fact[:60]}")
             out.append(("fact", fact))
     return out
 
 
 class Function:
-    def __init__(self, path, crate, scope, name, public):
+    def __init__(self, path, crate, scope, name, public, role=None):
         self.path, self.crate, self.scope, self.name, self.public = path, crate, scope, name, public
+        self.role = role  # "trait" for a trait's own, the trait's name for an instance's
         self.muts, self.lends = [], False
 
     def called(self):
         return "::".join([self.crate, *self.scope, self.name])
+
+    def compiled(self):
+        """What the compiler calls it: in an instance the type's name is followed by the trait's and by
+        those of its arguments, and a trait's own has no code."""
+        if self.role == "trait":
+            return None
+        if not self.role:
+            return re.escape(self.called())
+        return re.escape("::".join([self.crate, *self.scope]) + self.role) + r"\w*::" + re.escape(self.name)
 
     def module(self, part):
         return ".".join(["Rattle", self.crate, "proofs", *self.scope, self.name, part])
@@ -139,8 +158,31 @@ def visible(words, at):
     return known, is_pub or "extern" in marks or {"no_mangle", "export_name"} & set(attributes)
 
 
+def inner_traits(src):
+    """The traits of a crate that no other crate can name."""
+    found, public = set(), set()
+    for path in src.rglob("*.rt"):
+        for m in re.finditer(r"^ *(pub(?:\([^)]*\))? +)?trait +(\w+)", path.read_text(), re.M):
+            (public if (m[1] or "").strip() == "pub" else found).add(m[2])
+    return found - public
+
+
+def head_of(word, head, inner, marks):
+    """The type or trait whose functions follow, and their role; nothing where it is not read."""
+    arguments = r"(?: < [\w (),<>:+]* >)?"
+    text = " ".join(head)
+    if word == "trait":
+        m = re.fullmatch(rf"(\w+){arguments}", text)
+        return (m[1], "trait") if m and m[1] in inner and marks in ([], ["pub", "(", "crate", ")"]) else None
+    if m := re.fullmatch(r"(\w+)", text):
+        return m[1], None
+    m = re.fullmatch(rf"(\w+){arguments} for (\w+)", text)
+    return (m[2], m[1]) if m and m[1] in inner and not marks else None
+
+
 def functions(path, src, crate, fault):
     """Every function of the file `path` in a crate's folder `src`."""
+    inner, roles = inner_traits(src), {}
     kinds = tokens(path, fault)
     words = [w for _, w in kinds]
     file = list(path.relative_to(src).with_suffix("").parts)
@@ -156,10 +198,14 @@ def functions(path, src, crate, fault):
         elif kind != "word":
             continue
         elif word == "impl" or word == "trait":
-            head = words[i + 1 : words.index("{", i)]
-            if word == "trait" or "for" in head or "<" in head:
+            head, start = words[i + 1 : words.index("{", i)], i
+            while start and words[start - 1] not in (";", "{", "}", "]"):
+                start -= 1
+            read = head_of(word, head, inner, words[start:i])
+            if not read:
                 fault(path, f"`{word} {' '.join(head)}` is not read by this check")
-            inside = head[0]
+            inside = read[0] if read else head[0]
+            roles[len(stack)] = read[1] if read else None
         elif word == "mod" and words[i + 2 : i + 3] == ["{"]:
             inside = following
         elif word in ("struct", "enum", "type", "static"):
@@ -173,7 +219,8 @@ def functions(path, src, crate, fault):
             known, public = visible(words, i)
             if not known:
                 fault(path, f"{following}: what stands before its `fn` is not read by this check")
-            f = Function(path, crate, scope + [s for s in stack if s], following, public)
+            role = roles.get(len(stack) - 1) if stack and stack[-1] else None
+            f = Function(path, crate, scope + [s for s in stack if s], following, public, role)
             signature(f, words, i + 2, fault if public else lambda path, what: None)
             found.append(f)
     return found

@@ -2,13 +2,12 @@
 // and changes none. The report's text is promised by the crate report; only reading and writing are not.
 #![tactic(auto)]
 
-ghost use Rattle.std.specs.Prelude.{◌≡◌, ◌≤◌, length};
+ghost use Rattle.std.specs.Prelude.{◌≡◌, ◌≤◌, length, IfOk};
 ghost use Rattle.rules.specs.Report.{input_most};
-ghost use Rattle.check_main.specs.Input.{Fits, Within};
 
 use layout::IMAGE_MOST;
 use report::{REPORT_MOST, put_report};
-use std::io::{ErrorKind, Read, Write};
+use std::io::{self, ErrorKind, Read, Write};
 use std::rt::{Stderr, Stdin};
 
 // One byte more than the largest image has, so that a longer input is seen to be too long.
@@ -17,67 +16,23 @@ const INPUT: usize = IMAGE_MOST + 1;
 // How often a read that a signal interrupted is tried again.
 const TRIES: usize = 1000;
 
-// What one read answered.
-#[derive(Clone, Copy)]
-enum Got {
-    Bytes(usize),
-    End,
-    Interrupted,
-    Failed,
-}
-
-// What all reads together answered.
-#[derive(Clone, Copy)]
-enum Input {
-    Read(usize),
-    Failed,
-}
-
-// One read into buf from `at` on.
-fn read_at(mut stdin: Stdin, buf: &mut [u8], at: usize) -> Got
-    requires { at ≤ length buf.old }
-    ensures { Fits result at (length buf.old) }
-{
-    match stdin.read(&mut buf[at..]) {
-        Ok(0) => Got::End,
-        Ok(n) => Got::Bytes(n),
-        Err(e) => {
-            if e.kind() == ErrorKind::Interrupted {
-                return Got::Interrupted;
-            }
-            Got::Failed
-        }
-    }
-}
-
 // Reads until buf is full, the input ends or a read fails: no byte past `input_most`. A failed read is
 // never taken for the end.
-fn read_input(stdin: Stdin, buf: &mut [u8]) -> Input
+fn read_input(mut stdin: Stdin, buf: &mut [u8]) -> io::Result<usize>
     requires { length buf.old ≡ input_most }
-    ensures { Within result (length buf.new) }
+    ensures { IfOk result (λ n. n ≤ length buf.new) }
 {
     let mut at = 0;
     let mut tries = TRIES;
     while at < buf.len() {
-        match read_at(stdin, buf, at) {
-            Got::Bytes(n) => {
-                at += n;
-            }
-            Got::End => {
-                return Input::Read(at);
-            }
-            Got::Interrupted => {
-                if tries == 0 {
-                    return Input::Failed;
-                }
-                tries -= 1;
-            }
-            Got::Failed => {
-                return Input::Failed;
-            }
+        match stdin.read(&mut buf[at..]) {
+            Ok(0) => break,
+            Ok(n) => at += n,
+            Err(e) if e.kind() == ErrorKind::Interrupted && 0 < tries => tries -= 1,
+            Err(e) => return Err(e),
         }
     }
-    Input::Read(at)
+    Ok(at)
 }
 
 // Says on standard error what went wrong. Where that fails too, nobody is left to be told.
@@ -101,8 +56,8 @@ fn write_report(rt: &HostRuntime, image: &[u8]) {
 fn main(rt: HostRuntime) {
     let mut input = [0u8; INPUT];
     match read_input(rt.stdin(), &mut input) {
-        Input::Read(n) => write_report(&rt, &input[..n]),
-        Input::Failed => complain(
+        Ok(n) => write_report(&rt, &input[..n]),
+        Err(_) => complain(
             rt.stderr(),
             b"check: the input could not be read, so nothing was judged. See that it is a file that you may read, and check it again.\n",
         ),

@@ -1,5 +1,6 @@
 -- A replica in a buffer, written as its image. Assumes nothing.
 use mathlib.Core.Path.{◌≡◌, refl, sym, ap, ap₂, ◌∙◌}
+use Rattle.std.specs.Prelude.{Ok, Err}
 use mathlib.Core.List.{List, ◌++◌, append_assoc}
 use Prim.Native.Nat.{ℕ, ◌+◌, ◌-◌, ◌*◌, ◌≤◌, ◌<◌}
 use native.Mathlib.Nat.{zero-add}
@@ -7,7 +8,6 @@ use native.Mathlib.Omega.{arith}
 use borrow.Author.Tests.{lt-ltb, le-ltb}
 use lib.ListN.{length, take, drop, replicate}
 use lib.Seq.{take_at}
-use Rattle.rules.specs.declared.Answered.TheVariants.{Count, Refused}
 use Rattle.rules.specs.declared.Refusal.TheVariants.{ShortBuffer}
 use Rattle.rules.specs.Bytes.{be, part, join}
 use Rattle.rules.specs.Choice.{first_that}
@@ -129,15 +129,15 @@ pub saved_length : (b : List ℕ) (d r t : ℕ) → IsStored b → d ≡ length 
 saved_length b d r t i p q e = let l = image_length (replica_of b) i.replica in omega arith
 
 module _ (r : Replica) (out : List ℕ) (n : ℕ) (e : n ≡ length (image r)) where
-  pub save_short : length out < n → Does (save r out) (Refused ShortBuffer) out
+  pub save_short : length out < n → Does (save r out) (Err ShortBuffer) out
   unfolding save reads short_buffer first_that
   save_short h =
       let k : length out < length (image r) = omega arith in
       rw (lt-ltb (length out) (length (image r)) k) (record { answers = refl; left = refl })
 
-  pub save_written : (after : List ℕ) → n ≤ length out → after ≡ splice out 0 (image r) → Does (save r out) (Count n) after
+  pub save_written : (after : List ℕ) → n ≤ length out → after ≡ splice out 0 (image r) → Does (save r out) (Ok n) after
   unfolding save reads short_buffer first_that front splice
   save_written after h w =
       let k : length (image r) ≤ length out = omega arith in
       rw (le-ltb (length out) (length (image r)) k)
-      (record { answers = ap Count e; left = w ∙ ap (λ (j : ℕ). image r ++ drop j out) (zero-add (length (image r))) })
+      (record { answers = ap Ok e; left = w ∙ ap (λ (j : ℕ). image r ++ drop j out) (zero-add (length (image r))) })

@@ -1,15 +1,14 @@
 -- An image that has no fault, laid out in a buffer of zeros. Assumes nothing.
 use mathlib.Core.Path.{◌≡◌, refl, sym, ap, ap₂, ◌∙◌, subst}
+use Rattle.std.specs.Prelude.{Result, Ok, Err}
 use mathlib.Core.List.{List, [], ◌∷◌, ◌++◌, append_assoc}
-use mathlib.Core.Option.{none, some}
+use Rattle.std.specs.Prelude.{None, Some}
 use Prim.Native.Nat.{ℕ, zero, suc, ◌+◌, ◌-◌, ◌*◌, ◌≤◌, ◌<◌}
 use native.Mathlib.Nat.{add-zero, zero-add}
 use native.Mathlib.Omega.{arith}
 use lib.ListN.{length, get_or, take, drop, replicate, length-append, length-drop, length-replicate, replicate-append-replicate}
 use lib.Seq.{drop_at, take_all}
 use Rattle.rules.specs.declared.Fault.{Fault}
-use Rattle.rules.specs.declared.Loaded.{Loaded}
-use Rattle.rules.specs.declared.Loaded.TheVariants.{Accepted, Refused}
 use Rattle.rules.specs.Bytes.{be, value, value_from, part, join, Bytes}
 use Rattle.rules.specs.Choice.{first_that}
 use Rattle.rules.specs.Faults.{faults}
@@ -178,7 +177,7 @@ pub record Stands (s : List ℕ) (d n : ℕ) : Type 0 where
   pub revisions : n ≤ revisions_most
   pub size : length s ≡ head_size + entry_size * d + row_size * n
 
-module _ (s : List ℕ) (p : Bytes s) (e : first_that (faults s) ≡ none) where
+module _ (s : List ℕ) (p : Bytes s) (e : first_that (faults s) ≡ None) where
   abbrev held : Replica
   held = replica_in s
 
@@ -209,19 +208,19 @@ module _ (s : List ℕ) (p : Bytes s) (e : first_that (faults s) ≡ none) where
 
   -- ---- the promise
 
-  pub loads_accepted : (before after : List ℕ) → after ≡ stored held → Loads before s Accepted after
+  pub loads_accepted : (before after : List ℕ) → after ≡ stored held → Loads before s (Ok tt) after
   loads_accepted before after q =
       let back : replica_of after ≡ held = ap replica_of q ∙ stored_back held (replica_fits held is) in
       let stored-now : IsStored after = record { same = q ∙ ap stored (sym back); replica = subst IsReplica (sym back) is } in
       record {
         does = rw e (record { answers = refl; left = q });
-        means = loads (replica_of before) s e ∙ ap {B = Loaded × Replica} (λ r. (Accepted, r)) (sym back);
+        means = loads (replica_of before) s e ∙ ap {B = Result (Unit {0}) (Fault × ℕ) × Replica} (λ r. (Ok tt, r)) (sym back);
         accepted = λ _. stored-now;
         shows = λ _. ap image back ∙ same;
         stays = λ _. stored-now;
       }
 
-pub loads_refused : (before s : List ℕ) (f : Fault) (p : ℕ) → first_that (faults s) ≡ some (f, p) → Loads before s (Refused f p) before
+pub loads_refused : (before s : List ℕ) (f : Fault) (p : ℕ) → first_that (faults s) ≡ Some (f, p) → Loads before s (Err (f, p)) before
 loads_refused before s f p e = record {
   does = rw e (record { answers = refl; left = refl });
   means = refuses (replica_of before) s (f, p) e;
@@ -230,5 +229,5 @@ loads_refused before s f p e = record {
   stays = λ i. i;
 }
   where
-    never : Refused f p ≡ Accepted → ⊥
+    never : ◌≡◌ {A = Result (Unit {0}) (Fault × ℕ)} (Err (f, p)) (Ok tt) → ⊥
     never q = let z : ◌≡◌ {A = ℕ} 0 1 = cc in omega arith

@@ -1,17 +1,17 @@
 -- When bytes are a replica in a buffer: they are what their own parts give, laid out anew, and the image of
 -- these parts has no fault. Assumes nothing.
 use mathlib.Core.Path.{◌≡◌, refl, sym, ap, ap₂, ◌∙◌}
+use Rattle.std.specs.declared.cmp.Ordering.TheVariants.{Less, Equal, Greater}
+use Rattle.std.specs.declared.cmp.Ordering.{Ordering}
 use mathlib.Core.Bool.{Bool, true, false}
 use mathlib.Core.List.{List, ◌++◌, append_assoc}
-use mathlib.Core.Option.{none, some}
+use Rattle.std.specs.Prelude.{None, Some, Result, Ok, Err, is_ok}
 use Prim.Native.Nat.{ℕ, zero, suc, ◌+◌, ◌*◌, ◌≤◌, ◌<◌}
 use native.Mathlib.Nat.{add-zero}
 use native.Mathlib.Omega.{arith}
 use lib.ListN.{length, take, drop, replicate, length-append}
 use lib.Seq.{take_at, drop_at}
 use Rattle.rules.specs.declared.Fault.{Fault}
-use Rattle.rules.specs.declared.Order.{Order}
-use Rattle.rules.specs.declared.Order.TheVariants.{Less, Equal, Greater}
 use Rattle.rules.specs.Bytes.{be, value, part, Bytes}
 use Rattle.rules.specs.Choice.{first_that}
 use Rattle.rules.specs.Faults.{faults}
@@ -26,6 +26,7 @@ use Rattle.octets.specs.Splice.{splice}
 use Rattle.store.specs.Storage.{store_size, rows_place, replica_of, IsStored}
 use Rattle.store.proofs.FitLaws.{stored_laid}
 use Rattle.store.proofs.StoredLaws.{size_laid}
+use Rattle.faults.specs.Judged.{judged}
 use Rattle.codec.specs.Codec.{head_middle, moved, laid_out, image_from, CountsIn, Tells}
 use Rattle.codec.proofs.MoveLaws.{part_in, length_moved}
 use Rattle.codec.proofs.SaveLaws.{image_from_lem, stored_counts}
@@ -153,7 +154,7 @@ module _ (b : List ℕ) (d r : ℕ) (counts : CountsIn b d r) where
 
   -- ---- exactly a replica's buffer is what its parts give, with an image that has no fault
 
-  pub told_so : Bytes b → first_that (faults whole) ≡ none → b ≡ laid_out d b rows → IsStored b
+  pub told_so : Bytes b → first_that (faults whole) ≡ None → b ≡ laid_out d b rows → IsStored b
   told_so h e same =
       let p = bytes_from d r b h in
       (loads_accepted whole p e b b (same ∙ (laid_same ∙ relaid whole p e d (sym documents_same)))).accepted refl
@@ -169,7 +170,7 @@ module _ (b : List ℕ) (d r : ℕ) (counts : CountsIn b d r) where
       ∙ (ap₂ (λ (x : ℕ) (y : List ℕ). laid_out x y (drop (head_size + entry_size * x) y)) p (whole_is i)
       ∙ (laid_out_lem (replica_of b) i.replica ∙ sym i.same)))
 
-  pub so_fine : IsStored b → first_that (faults whole) ≡ none
+  pub so_fine : IsStored b → first_that (faults whole) ≡ None
   so_fine i = ap (λ (s : List ℕ). first_that (faults s)) (whole_is i) ∙ (image_loads (replica_of b) i.replica).0
 
 -- ---- what the code answers
@@ -180,7 +181,7 @@ not_so n = record { yes = λ q. absurd (let z : ◌≡◌ {A = ℕ} 0 1 = cc in 
 pub is_so : {so : Type 0} → so → Tells so true
 is_so i = record { yes = λ q. i; always = λ i. refl }
 
-equal : (o : Order) → is_equal o ≡ true → o ≡ Equal
+equal : (o : Ordering) → is_equal o ≡ true → o ≡ Equal
 equal Less e = absurd (let z : ◌≡◌ {A = ℕ} 0 1 = cc in omega arith)
 equal Equal e = refl
 equal Greater e = absurd (let z : ◌≡◌ {A = ℕ} 0 1 = cc in omega arith)
@@ -220,16 +221,21 @@ module _ (b : List ℕ) (d r : ℕ) (counts : CountsIn b d r) (t : List ℕ) (la
     unfolding splice
     front_is = ap (take k) written ∙ take_at (image_from d r b) _ k (length_whole b d r counts ∙ sym size)
 
-    pub tells_fine : Bytes b → first_that (faults (take k u)) ≡ none → is_equal (order_bytes b t) ≡ true → Tells (IsStored b) true
+    tells_fine : Bytes b → first_that (faults (take k u)) ≡ None → is_equal (order_bytes b t) ≡ true → Tells (IsStored b) true
     tells_fine p e same =
         is_so
         (told_so b d r counts p (ap (λ (s : List ℕ). first_that (faults s)) (sym front_is) ∙ e) (same_true b t same ∙ laid))
 
-    pub tells_fault : (f : Fault × ℕ) → first_that (faults (take k u)) ≡ some f → Tells (IsStored b) false
+    tells_fault : (f : Fault × ℕ) → first_that (faults (take k u)) ≡ Some f → Tells (IsStored b) false
     tells_fault f e = not_so (λ i.
-        let c : none ≡ some f = sym (so_fine b d r counts i) ∙ (ap (λ (s : List ℕ). first_that (faults s)) (sym front_is) ∙ e) in
+        let c : None ≡ Some f = sym (so_fine b d r counts i) ∙ (ap (λ (s : List ℕ). first_that (faults s)) (sym front_is) ∙ e) in
         let z : ◌≡◌ {A = ℕ} 0 1 = cc in
         omega arith)
+
+    -- by what is said of the image's faults
+    pub tells_said : (r : Result (Unit {0}) (Fault × ℕ)) → judged r ≡ first_that (faults (take k u)) → Bytes b → is_equal (order_bytes b t) ≡ true → Tells (IsStored b) (is_ok r)
+    tells_said (Ok x) e p same = tells_fine p (sym e) same
+    tells_said (Err f) e p same = tells_fault f (sym e)
 
 -- a question has one answer
 pub tells_one : {so : Type 0} {a b : Bool} → Tells so a → Tells so b → a ≡ b

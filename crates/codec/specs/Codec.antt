@@ -1,9 +1,8 @@
 -- What loading leaves in a buffer, what saving writes, and when bytes are a replica in a buffer.
 use Rattle.std.specs.Prelude.{◌≡◌, Bool, true, List, [], ◌++◌, ℕ, zero, suc, ◌+◌, ◌-◌, ◌*◌, ◌≤◌, length, replicate}
-use Rattle.std.proofs.Math.Option.{Option, none, some}
+use Rattle.std.specs.Prelude.{Result, Ok, Err}
+use Rattle.std.specs.Prelude.{Option, None, Some}
 use Rattle.rules.specs.declared.Fault.{Fault}
-use Rattle.rules.specs.declared.Loaded.{Loaded}
-use Rattle.rules.specs.declared.Loaded.TheVariants.{Accepted, Refused}
 use Rattle.rules.specs.Bytes.{be, value, part}
 use Rattle.rules.specs.Choice.{first_that}
 use Rattle.rules.specs.Faults.{faults, load}
@@ -52,22 +51,22 @@ pub record CanLay (b src : List ℕ) (d : ℕ) (rows : List ℕ) : Type 0 where
 
 pub record CanTake (b s : List ℕ) : Type 0 where
   pub size : length b ≡ store_size
-  pub fine : first_that (faults s) ≡ none
+  pub fine : first_that (faults s) ≡ None
 
 -- "A failed load leaves the former replica": to the last byte
-abbrev pub load_bytes : List ℕ → List ℕ → Option (Fault × ℕ) → Loaded × List ℕ
-load_bytes before s none = (Accepted, stored (replica_in s))
-load_bytes before s (some f) = (Refused f.0 f.1, before)
+abbrev pub load_bytes : List ℕ → List ℕ → Option (Fault × ℕ) → Result (Unit {0}) (Fault × ℕ) × List ℕ
+load_bytes before s None = (Ok tt, stored (replica_in s))
+load_bytes before s (Some f) = (Err f, before)
 
-pub record Loads (before s : List ℕ) (answer : Loaded) (after : List ℕ) : Type 0 where
+pub record Loads (before s : List ℕ) (answer : Result (Unit {0}) (Fault × ℕ)) (after : List ℕ) : Type 0 where
   -- the answer, and every byte of the buffer
   pub does : Does (load_bytes before s (first_that (faults s))) answer after
   -- so it is what 01 says of the replica
   pub means : load (replica_of before) s ≡ (answer, replica_of after)
   -- what was accepted is a replica in the buffer, whatever was there
-  pub accepted : answer ≡ Accepted → IsStored after
+  pub accepted : answer ≡ Ok tt → IsStored after
   -- whose image is the one that was loaded
-  pub shows : answer ≡ Accepted → image (replica_of after) ≡ s
+  pub shows : answer ≡ Ok tt → image (replica_of after) ≡ s
   -- and what was a replica in the buffer stays one
   pub stays : IsStored before → IsStored after
 

@@ -12,13 +12,13 @@ ghost use Rattle.octets.specs.Splice.{splice};
 ghost use Rattle.store.specs.Storage.{store_size, stored, replica_of, IsStored};
 ghost use Rattle.codec.specs.Codec.{moved, CanMove, laid_out, CanLay, CanTake, image_from, CanWrite, Loads, CountsIn, Tells};
 
-use faults::{Judged, fault};
+use faults::fault;
 use layout::entry::{put_place, rows};
 use layout::head::{documents, put_edition, put_total, revisions};
 use layout::{DOCUMENTS_AT, ENTRY, HEAD, PLACE_IN, ROW, ROWS, SIZE, TOTAL_AT};
 use octets::order::same_bytes;
 use octets::run::{clear, copy_in};
-use rules::{Answered, DOCUMENTS, Loaded, REVISIONS, Refusal};
+use rules::{DOCUMENTS, Fault, REVISIONS, Refusal};
 use store::read::{documents_held, revisions_held};
 
 // Copies d entries from src to dst. The first gets `first` as its place, and each row of an entry moves
@@ -28,14 +28,12 @@ fn copy_entries(dst: &mut [u8], src: &[u8], d: usize, first: usize, step: usize)
     ensures { dst.new ≡ splice dst.old head_size (moved step first d head_size src.now) }
 {
     let mut place = first;
-    let mut i = 0;
-    while i < d {
+    for i in 0..d {
         let at = HEAD + ENTRY * i;
         let e = at + PLACE_IN;
         copy_in(dst, at, &src[at..e]);
         put_place(dst, at, place as u32);
         place += step * rows(src, at);
-        i += 1;
     }
 }
 
@@ -61,17 +59,13 @@ fn take_in(b: &mut [u8], image: &[u8])
 }
 
 // Makes the buffer the replica of an image, or leaves it as it was.
-pub fn load(b: &mut [u8], image: &[u8]) -> Loaded
+pub fn load(b: &mut [u8], image: &[u8]) -> Result<(), (Fault, usize)>
     requires { length b.old ≡ store_size }
     ensures { Loads b.old image.now result b.new }
 {
-    match fault(image) {
-        Judged::Bad(f, p) => Loaded::Refused(f, p),
-        Judged::Fine => {
-            take_in(b, image);
-            Loaded::Accepted
-        }
-    }
+    fault(image)?;
+    take_in(b, image);
+    Ok(())
 }
 
 // Writes the image of d documents and r revisions whose parts stand in b.
@@ -89,7 +83,7 @@ fn write_image(b: &[u8], out: &mut [u8], d: usize, r: usize)
 }
 
 // Writes the image of the replica in the buffer, and answers its length.
-pub fn save(b: &[u8], out: &mut [u8]) -> Answered
+pub fn save(b: &[u8], out: &mut [u8]) -> Result<usize, Refusal>
     requires { IsStored b.now }
     ensures { Does (save (replica_of b.now) out.old) result out.new }
 {
@@ -97,10 +91,10 @@ pub fn save(b: &[u8], out: &mut [u8]) -> Answered
     let r = revisions_held(b);
     let total = HEAD + ENTRY * d + ROW * r;
     if out.len() < total {
-        return Answered::Refused(Refusal::ShortBuffer);
+        return Err(Refusal::ShortBuffer);
     }
     write_image(b, out, d, r);
-    Answered::Count(total)
+    Ok(total)
 }
 
 // Whether a buffer with d documents and r revisions is a replica. One scratch serves twice: for what the
@@ -117,10 +111,7 @@ fn holds_replica(b: &[u8], d: usize, r: usize) -> bool
         return false;
     }
     write_image(b, &mut t, d, r);
-    match fault(&t[..size]) {
-        Judged::Fine => true,
-        Judged::Bad(_, _) => false,
-    }
+    fault(&t[..size]).is_ok()
 }
 
 // Whether any bytes are a replica in a buffer.

@@ -1,22 +1,21 @@
 -- What each call does to the replicas in its buffers: of an accepted call, or of one that is lent a replica. Assumes nothing.
 use mathlib.Core.Path.{◌≡◌, refl, sym, ap, ◌∙◌, subst}
+use Rattle.rules.specs.declared.Refusal.{Refusal}
+use Rattle.rules.specs.declared.Outcome.{Outcome}
+use Rattle.std.specs.Prelude.{Result, Ok, Err}
 use mathlib.Core.Bool.{Bool, true, false}
 use mathlib.Core.List.{List, [], ◌∷◌}
-use mathlib.Core.Option.{Option, none, some}
+use Rattle.std.specs.Prelude.{Option, None, Some}
 use Prim.Native.Nat.{ℕ}
 use borrow.Author.Tests.{eq-eqb}
 use lib.Dec.{ltb}
 use lib.ListN.{length}
-use Rattle.rules.specs.declared.Answered.{Answered}
-use Rattle.rules.specs.declared.Answered.TheVariants as answered
 use Rattle.rules.specs.declared.Content.{Content}
 use Rattle.rules.specs.declared.Content.TheVariants.{Live, Deleted}
 use Rattle.rules.specs.declared.Fault.{Fault}
 use Rattle.rules.specs.declared.Refusal.TheVariants.{ShortBuffer}
 use Rattle.rules.specs.declared.Revision.{Revision}
 use Rattle.rules.specs.declared.Seq.{Seq}
-use Rattle.rules.specs.declared.Written.{Written}
-use Rattle.rules.specs.declared.Written.TheVariants as written
 use Rattle.rules.specs.Answer.{Numbered, accepted, written_number, edited_number, answered_number, loaded_number}
 use Rattle.rules.specs.Choice.{pick, first_that}
 use Rattle.rules.specs.Edit.{Edit, edit}
@@ -62,14 +61,14 @@ holding r s k e =
 
 module _ (x : ℕ) where
   -- of a read or a save: it counts
-  pub counted : (a : Answered) → decode x ≡ answered_number a → C.IsAccepted x → a ≡ answered.Count (value_in x)
-  counted (answered.Count n) d h = ap answered.Count (sym (ap (λ (m : Numbered). m.value) d))
-  counted (answered.Refused n) d h = absurd (no_refusal n (sym (ap (λ (m : Numbered). m.refusal) d) ∙ h))
+  pub counted : (a : Result ℕ Refusal) → decode x ≡ answered_number a → C.IsAccepted x → a ≡ Ok (value_in x)
+  counted (Ok n) d h = ap Ok (sym (ap (λ (m : Numbered). m.value) d))
+  counted (Err n) d h = absurd (no_refusal n (sym (ap (λ (m : Numbered). m.refusal) d) ∙ h))
 
   -- of an accepted write: it is accepted
-  pub accepted_if : (o : Written) → decode x ≡ written_number o → IsAccepted o → C.IsAccepted x
-  accepted_if (written.Accepted o) d h = ap (λ (m : Numbered). m.refusal) d
-  accepted_if (written.Refused n) d h = absurd h
+  pub accepted_if : (o : Result Outcome Refusal) → decode x ≡ written_number o → IsAccepted o → C.IsAccepted x
+  accepted_if (Ok o) d h = ap (λ (m : Numbered). m.refusal) d
+  accepted_if (Err n) d h = absurd h
 
 -- an accepted call was lent a replica
 pub lent_one : {L : Type 0} (s : List ℕ) (us : List (Bool × ℕ)) {lent : L} {o : Numbered × L} {r : ℕ} {left : L}
@@ -87,27 +86,27 @@ module _ {s : List ℕ} {r : ℕ} {left : List ℕ} (k : Called C.fresh s r left
 -- ---- load
 
 module _ {s image : List ℕ} {r : ℕ} {left : List ℕ} (k : LoadCall s image r left) where
-  load_past : first_that (bad_replica s ∷ []) ≡ none
+  load_past : first_that (bad_replica s ∷ []) ≡ None
       → (decode r ≡ loaded_number (load_bytes s image (first_that (faults image))).0) × (left ≡ (load_bytes s image (first_that (faults image))).1)
   unfolding load_call
   load_past e = told_does (load_tells.told k.call) e
 
   -- an image with no fault loads into any buffer of the right size
-  pub load_fine : length s ≡ store_size → first_that (faults image) ≡ none → C.IsAccepted r × (left ≡ stored (replica_in image))
+  pub load_fine : length s ≡ store_size → first_that (faults image) ≡ None → C.IsAccepted r × (left ≡ stored (replica_in image))
   load_fine e f =
       let d = load_past (sized s e) in
       let a : decode r ≡ accepted 0 = d.0 ∙ rw f in
       (ap (λ (m : Numbered). m.refusal) a, d.1 ∙ rw f)
 
   -- an accepted call was given an image with no fault, and leaves its replica
-  pub load_does : C.IsAccepted r → (first_that (faults image) ≡ none) × Holding (replica_in image) left
+  pub load_does : C.IsAccepted r → (first_that (faults image) ≡ None) × Holding (replica_in image) left
   unfolding load_call
   load_does a = let d = load_past ((load_tells.told k.call).past a) in go (first_that (faults image)) refl d.0 d.1
     where
       go : (o : Option (Fault × ℕ)) → first_that (faults image) ≡ o → decode r ≡ loaded_number (load_bytes s image o).0 → left ≡ (load_bytes s image o).1
-          → (first_that (faults image) ≡ none) × Holding (replica_in image) left
-      go none e d l = (e, holding (replica_in image) left (loaded_is_replica image k.given e).0 l)
-      go (some f) e d l = absurd (no_fault f.0 (sym (ap (λ (m : Numbered). m.refusal) d) ∙ a))
+          → (first_that (faults image) ≡ None) × Holding (replica_in image) left
+      go None e d l = (e, holding (replica_in image) left (loaded_is_replica image k.given e).0 l)
+      go (Some f) e d l = absurd (no_fault f.0 (sym (ap (λ (m : Numbered). m.refusal) d) ∙ a))
 
 -- ---- save
 
@@ -128,7 +127,7 @@ content_back (Live n) = refl
 content_back Deleted = refl
 
 -- which pass 101 and 102
-content_passes : (c : Content) → first_that (bad_kind (content_kind c) ∷ bad_label (content_kind c) (content_label c) ∷ []) ≡ none
+content_passes : (c : Content) → first_that (bad_kind (content_kind c) ∷ bad_label (content_kind c) (content_label c) ∷ []) ≡ None
 unfolding first_that bad_kind bad_label
 content_passes (Live n) = refl
 content_passes Deleted = refl
@@ -139,7 +138,7 @@ writing s w = (C.write).means (for_write s w)
 
 -- lent a replica, it does what w does
 module _ (s : List ℕ) (w : Write) where
-  pub write_passes : IsStored s → first_that (writing s w).house ≡ none
+  pub write_passes : IsStored s → first_that (writing s w).house ≡ None
   unfolding write_call
   write_passes i = replica_past s _ i (content_passes w.content)
 
@@ -174,8 +173,8 @@ module _ {s : List ℕ} {w : Write} {r : ℕ} {left : List ℕ} (k : WriteCall s
 
 -- a parent from its flag, number and hash
 parent_back : (p : Option Revision) → parent_from (parent_named p) (revision (parent_number p) (parent_hash p)) ≡ p
-parent_back none = refl
-parent_back (some v) = refl
+parent_back None = refl
+parent_back (Some v) = refl
 
 -- the call that is an edit e
 abbrev pub editing : List ℕ → Edit → CCall (List ℕ)
@@ -183,16 +182,16 @@ editing s e = (C.edit).means (for_edit s e)
 
 module _ (s : List ℕ) (e : Edit) where
   -- lent a replica, and of hashes of sixteen bytes, it is not refused by the house
-  pub edit_passes : IsStored s → length e.hash ≡ hash_size → ((v : Revision) → e.parent ≡ some v → length v.hash ≡ hash_size) → first_that (editing s e).house ≡ none
+  pub edit_passes : IsStored s → length e.hash ≡ hash_size → ((v : Revision) → e.parent ≡ Some v → length v.hash ≡ hash_size) → first_that (editing s e).house ≡ None
   unfolding edit_call first_that edit_house bad_kind bad_label bad_flag bad_hash parent_house bad_no_parent
   edit_passes i z y = replica_past s _ i (go e.content e.parent y)
     where
-      go : (c : Content) (p : Option Revision) → ((v : Revision) → p ≡ some v → length v.hash ≡ hash_size)
-          → first_that (edit_house e.hash (content_kind c) (content_label c) (parent_named p) (parent_number p) (parent_hash p)) ≡ none
-      go (Live n) none f = rw (eq-eqb (length e.hash) hash_size z)
-      go (Live n) (some v) f = rw (eq-eqb (length e.hash) hash_size z, eq-eqb (length v.hash) hash_size (f v refl))
-      go Deleted none f = rw (eq-eqb (length e.hash) hash_size z)
-      go Deleted (some v) f = rw (eq-eqb (length e.hash) hash_size z, eq-eqb (length v.hash) hash_size (f v refl))
+      go : (c : Content) (p : Option Revision) → ((v : Revision) → p ≡ Some v → length v.hash ≡ hash_size)
+          → first_that (edit_house e.hash (content_kind c) (content_label c) (parent_named p) (parent_number p) (parent_hash p)) ≡ None
+      go (Live n) None f = rw (eq-eqb (length e.hash) hash_size z)
+      go (Live n) (Some v) f = rw (eq-eqb (length e.hash) hash_size z, eq-eqb (length v.hash) hash_size (f v refl))
+      go Deleted None f = rw (eq-eqb (length e.hash) hash_size z)
+      go Deleted (Some v) f = rw (eq-eqb (length e.hash) hash_size z, eq-eqb (length v.hash) hash_size (f v refl))
 
   -- and does what e does
   pub edit_is : (editing s e).does ≡ (edited_number (edit (replica_of s) e).0, stored (edit (replica_of s) e).1)
@@ -221,7 +220,7 @@ module _ {s : List ℕ} {e : Edit} {r : ℕ} {left : List ℕ} (k : EditCall s e
 -- ---- pull
 
 module _ {t s : List ℕ} {q : Seq} {answer : List ℕ} {r : ℕ} {left answered : List ℕ} (k : Called C.pull (t, s, q, answer) r (left, answered)) where
-  pull_past : C.IsAccepted r → (first_that (lent_house t) ≡ none) × (first_that (lent_house s) ≡ none)
+  pull_past : C.IsAccepted r → (first_that (lent_house t) ≡ None) × (first_that (lent_house s) ≡ None)
   unfolding pull_call
   pull_past a = first_both (lent_house t) (lent_house s) ((pull_tells.told k).past a)
 

@@ -1,9 +1,11 @@
 -- What refile_changes says of a document that it comes to. Assumes nothing.
 use mathlib.Core.Path.{◌≡◌, refl, sym, ap, ◌∙◌, subst}
+use Rattle.rules.specs.declared.Refusal.{Refusal}
+use Rattle.std.specs.Prelude.{Result, Ok, Err}
 use mathlib.Core.Bool.{Bool, true, false}
 use mathlib.Core.List.{List, [], ◌∷◌, append_assoc}
 use mathlib.Core.Logic.{inl, inr}
-use mathlib.Core.Option.{Option, none, some}
+use Rattle.std.specs.Prelude.{Option, None, Some}
 use Prim.Native.Nat.{ℕ, suc, ◌<◌, ◌≤◌}
 use native.Mathlib.Omega.{arith}
 use borrow.Author.Tests.{ltb-true, ltb-false, le-ltb}
@@ -11,8 +13,6 @@ use lib.Dec.{ltb}
 use lib.ListN.{length, take, length-append}
 use lib.Seq.{take_at}
 use Rattle.rules.specs.declared.Change.{Change}
-use Rattle.rules.specs.declared.Changes.{Changes}
-use Rattle.rules.specs.declared.Changes.TheVariants as changes
 use Rattle.rules.specs.declared.Refusal.TheVariants.{ShortBuffer}
 use Rattle.rules.specs.declared.Seq.{Seq}
 use Rattle.rules.specs.Answer.{Numbered, accepted}
@@ -50,7 +50,7 @@ record About (r : Replica) (out answer left answered : List ℕ) : Type 0 where
   change : Change
   writes : left ≡ front id out
   answers : answered ≡ front (change_bytes change) answer
-  about : change_about r id ≡ some change
+  about : change_about r id ≡ Some change
 
 module _ {s : List ℕ} {q : Seq} {out answer : List ℕ} {r : ℕ} {left answered : List ℕ} (k : Called C.changes (s, q, out, answer) r (left, answered)) (i : IsStored s) where
   changes_does : (decode r ≡ (changes_as out answer (read_changes (replica_of s) q out)).0) × ((left, answered) ≡ (changes_as out answer (read_changes (replica_of s) q out)).1)
@@ -62,7 +62,7 @@ module _ {s : List ℕ} {q : Seq} {out answer : List ℕ} {r : ℕ} {left answer
   unfolding short_answer
   changes_says a v = go (read_changes (replica_of s) q out) refl changes_does.0 changes_does.1
     where
-      said_of : (c : Change) (l : List ℕ) → read_changes (replica_of s) q out ≡ (changes.Next c, l)
+      said_of : (c : Change) (l : List ℕ) → read_changes (replica_of s) q out ≡ (Ok (Some c), l)
           → ◌≡◌ {A = List ℕ × List ℕ} (left, answered) (l, front (change_bytes c) answer) → About (replica_of s) out answer left answered
       said_of c l e p =
           let x = union.changes_about (replica_of s) i.replica q out l c e in
@@ -74,27 +74,27 @@ module _ {s : List ℕ} {q : Seq} {out answer : List ℕ} {r : ℕ} {left answer
             about = x.2;
           }
 
-      by : (c : Change) (l : List ℕ) → read_changes (replica_of s) q out ≡ (changes.Next c, l) → (b : Bool)
+      by : (c : Change) (l : List ℕ) → read_changes (replica_of s) q out ≡ (Ok (Some c), l) → (b : Bool)
           → decode r ≡ (pick {A = Numbered × (List ℕ × List ℕ)} b (short_answer, (out, answer)) (accepted 1, (l, front (change_bytes c) answer))).0
           → (left, answered) ≡ (pick {A = Numbered × (List ℕ × List ℕ)} b (short_answer, (out, answer)) (accepted 1, (l, front (change_bytes c) answer))).1
           → About (replica_of s) out answer left answered
       by c l e true d p = absurd (no_refusal ShortBuffer (sym (ap (λ (m : Numbered). m.refusal) d) ∙ a))
       by c l e false d p = said_of c l e p
 
-      go : (o : Changes × List ℕ) → read_changes (replica_of s) q out ≡ o → decode r ≡ (changes_as out answer o).0 → (left, answered) ≡ (changes_as out answer o).1
+      go : (o : Result (Option Change) Refusal × List ℕ) → read_changes (replica_of s) q out ≡ o → decode r ≡ (changes_as out answer o).0 → (left, answered) ≡ (changes_as out answer o).1
           → About (replica_of s) out answer left answered
-      go (changes.Next c, l) e d p = by c l e (ltb (length answer) (length (change_bytes c))) d p
-      go (changes.NoMore, l) e d p = let z : value_in r ≡ 0 = ap (λ (m : Numbered). m.value) d in absurd (omega arith)
-      go (changes.Refused n, l) e d p = absurd (no_refusal n (sym (ap (λ (m : Numbered). m.refusal) d) ∙ a))
+      go (Ok (Some c), l) e d p = by c l e (ltb (length answer) (length (change_bytes c))) d p
+      go (Ok None, l) e d p = let z : value_in r ≡ 0 = ap (λ (m : Numbered). m.value) d in absurd (omega arith)
+      go (Err n, l) e d p = absurd (no_refusal n (sym (ap (λ (m : Numbered). m.refusal) d) ∙ a))
 
 -- what is said of a document begins with the length of its id
-about_size : (r : Replica) → IsReplica r → (i : Id) (c : Change) → change_about r i ≡ some c → (c.id_len ≡ length i) × (c.id_len < 4294967296)
+about_size : (r : Replica) → IsReplica r → (i : Id) (c : Change) → change_about r i ≡ Some c → (c.id_len ≡ length i) × (c.id_len < 4294967296)
 unfolding change_of
 about_size r k i c = go (document_of r i) refl
   where
-    go : (o : Option Document) → document_of r i ≡ o → maybe none (λ d. some (change_of (i, d))) o ≡ some c → (c.id_len ≡ length i) × (c.id_len < 4294967296)
-    go none e p = absurd (let z : ◌≡◌ {A = ℕ} 0 1 = cc in omega arith)
-    go (some d) e p =
+    go : (o : Option Document) → document_of r i ≡ o → maybe None (λ d. Some (change_of (i, d))) o ≡ Some c → (c.id_len ≡ length i) × (c.id_len < 4294967296)
+    go None e p = absurd (let z : ◌≡◌ {A = ℕ} 0 1 = cc in omega arith)
+    go (Some d) e p =
         let same : change_of (i, d) ≡ c = cc in
         let z : length i ≡ c.id_len = ap (λ (x : Change). x.id_len) same in
         let m = (k.documents i d e).id.most in
@@ -124,13 +124,13 @@ front_same i j out l e = sym (take_at i _ (length j) l) ∙ (ap (take (length j)
 -- where it comes to j, it is j that it speaks of
 module _ {j : Id} {s : List ℕ} {q : Seq} {out answer : List ℕ} {r : ℕ} {left answered : List ℕ}
     (k : Called C.changes (s, q, out, answer) r (left, answered)) (i : IsStored s) (n : ComesTo j out r left answered) where
-  told : (c : Change) × (take change_size answered ≡ change_bytes c) × (change_about (replica_of s) j ≡ some c) × (answered ≡ front (change_bytes c) answer)
+  told : (c : Change) × (take change_size answered ≡ change_bytes c) × (change_about (replica_of s) j ≡ Some c) × (answered ≡ front (change_bytes c) answer)
   told =
       let x = changes_says k i n.accepted n.more in
       let z = about_size (replica_of s) i.replica x.id x.change x.about in
       let f : value (part 0 4 answered) ≡ x.change.id_len = ap (λ (b : List ℕ). value (part 0 4 b)) x.answers ∙ first_number x.change answer z.1 in
       let same : x.id ≡ j = front_same x.id j out (sym z.0 ∙ (sym f ∙ n.size)) (sym x.writes ∙ n.id) in
-      (x.change, whole x.change answer answered x.answers, subst (λ (y : Id). change_about (replica_of s) y ≡ some x.change) same x.about, x.answers)
+      (x.change, whole x.change answer answered x.answers, subst (λ (y : Id). change_about (replica_of s) y ≡ Some x.change) same x.about, x.answers)
 
 pub changes_same : (j : Id) (s t : List ℕ) → IsStored s → IsStored t → change_about (replica_of t) j ≡ change_about (replica_of s) j
     → {p q : Seq} {out out' answer answer' : List ℕ} {x y : ℕ} {m n a b : List ℕ}
@@ -138,7 +138,7 @@ pub changes_same : (j : Id) (s t : List ℕ) → IsStored s → IsStored t → c
 changes_same j s t hs ht e k l u v =
     let c = told k hs u in
     let d = told l ht v in
-    let z : some c.0 ≡ some d.0 = sym c.2 ∙ (sym e ∙ d.2) in
+    let z : Some c.0 ≡ Some d.0 = sym c.2 ∙ (sym e ∙ d.2) in
     let same : c.0 ≡ d.0 = cc in
     c.1 ∙ (ap change_bytes same ∙ sym d.1)
 
@@ -154,16 +154,16 @@ second_number c answer h =
     ∙ (ap value (part-front (be 4 c.seq.0) _ 4 (length-be 4 c.seq.0)) ∙ value_be 4 c.seq.0 (omega arith))))
 
 -- what is said of a document is said of one that is held
-held_about : (r : Replica) (i : Id) (c : Change) → change_about r i ≡ some c → (d : Document) × (document_of r i ≡ some d) × (change_of (i, d) ≡ c)
+held_about : (r : Replica) (i : Id) (c : Change) → change_about r i ≡ Some c → (d : Document) × (document_of r i ≡ Some d) × (change_of (i, d) ≡ c)
 held_about r i c = go (document_of r i) refl
   where
-    go : (o : Option Document) → document_of r i ≡ o → maybe none (λ d. some (change_of (i, d))) o ≡ some c
-        → (d : Document) × (document_of r i ≡ some d) × (change_of (i, d) ≡ c)
-    go none e p = absurd (let z : ◌≡◌ {A = ℕ} 0 1 = cc in omega arith)
-    go (some d) e p = (d, e, cc)
+    go : (o : Option Document) → document_of r i ≡ o → maybe None (λ d. Some (change_of (i, d))) o ≡ Some c
+        → (d : Document) × (document_of r i ≡ Some d) × (change_of (i, d) ≡ c)
+    go None e p = absurd (let z : ◌≡◌ {A = ℕ} 0 1 = cc in omega arith)
+    go (Some d) e p = (d, e, cc)
 
 -- an own sequence has room in four bytes
-own_most : (r : Replica) → IsReplica r → (i : Id) (d : Document) → document_of r i ≡ some d → d.seq.0 ≤ seq_most
+own_most : (r : Replica) → IsReplica r → (i : Id) (d : Document) → document_of r i ≡ Some d → d.seq.0 ≤ seq_most
 unfolding document_of
 own_most r k i d e = go r.documents (replica_fits r k).documents (find_in bytes_order r.documents i d e)
   where
@@ -173,10 +173,10 @@ own_most r k i d e = go r.documents (replica_fits r k).documents (find_in bytes_
     go (x ∷ ds) h (inr m) = go ds h.1 m
 
 -- after the sequence below its own, a document is the lowest: no other has that one
-next_lowest : (r : Replica) → IsReplica r → (i : Id) (d : Document) (q : Seq) → document_of r i ≡ some d → suc q.0 ≡ d.seq.0 → Lowest q r i d
+next_lowest : (r : Replica) → IsReplica r → (i : Id) (d : Document) (q : Seq) → document_of r i ≡ Some d → suc q.0 ≡ d.seq.0 → Lowest q r i d
 next_lowest r k i d q h e = record { held = h; above = omega arith; lowest = λ j x f a n. less j x f a n (ltb d.seq.0 x.seq.0) refl }
   where
-    less : (j : Id) (x : Document) → document_of r j ≡ some x → q.0 < x.seq.0 → (j ≡ i → ⊥) → (b : Bool) → ltb d.seq.0 x.seq.0 ≡ b → d.seq.0 < x.seq.0
+    less : (j : Id) (x : Document) → document_of r j ≡ Some x → q.0 < x.seq.0 → (j ≡ i → ⊥) → (b : Bool) → ltb d.seq.0 x.seq.0 ≡ b → d.seq.0 < x.seq.0
     less j x f a n true z = ltb-true d.seq.0 x.seq.0 z
     less j x f a n false z =
         absurd (n ((k.documents i d h).seq_own j x f (seq_path x.seq d.seq (let g = ltb-false d.seq.0 x.seq.0 z in omega arith))))
@@ -187,17 +187,17 @@ comes_at : {j : Id} {t : List ℕ} {q : Seq} {out answer : List ℕ} {y : ℕ} {
 unfolding first_that short_buffer change_bytes
 comes_at {j} {t} {q} {out} {answer} {y} {n} {b} l i d w f g =
     let c : Change = change_of (j, d) in
-    let room : first_that (short_buffer j out ∷ []) ≡ none = rw (le-ltb (length out) (length j) f) refl in
-    let read : read_changes (replica_of t) q out ≡ (changes.Next c, front j out)
-    = changes_lowest (replica_of t) i.replica q out j d w ∙ ap (lend changes.Refused out (changes.Next c) j) room in
-    let whole : changes_as out answer (changes.Next c, front j out) ≡ (accepted 1, (front j out, front (change_bytes c) answer))
+    let room : first_that (short_buffer j out ∷ []) ≡ None = rw (le-ltb (length out) (length j) f) refl in
+    let read : read_changes (replica_of t) q out ≡ (Ok (Some c), front j out)
+    = changes_lowest (replica_of t) i.replica q out j d w ∙ ap (lend Err out (Ok (Some c)) j) room in
+    let whole : changes_as out answer (Ok (Some c), front j out) ≡ (accepted 1, (front j out, front (change_bytes c) answer))
     = room_answer {A = Numbered × (List ℕ × List ℕ)} (short_answer, (out, answer)) (accepted 1, (front j out, front (change_bytes c) answer))
     (c.id_len ∷ c.seq.0 ∷ c.leaves ∷ flag_number c.deleted ∷ []) answer (omega arith) in
     let is : changes_as out answer (read_changes (replica_of t) q out) ≡ (accepted 1, (front j out, front (change_bytes c) answer)) = ap (changes_as out answer) read ∙ whole in
     let e = changes_does l i in
     let r : decode y ≡ accepted 1 = e.0 ∙ ap (λ (o : Numbered × (List ℕ × List ℕ)). o.0) is in
     let m : ◌≡◌ {A = List ℕ × List ℕ} (n, b) (front j out, front (change_bytes c) answer) = e.1 ∙ ap (λ (o : Numbered × (List ℕ × List ℕ)). o.1) is in
-    let z = about_size (replica_of t) i.replica j c (ap (maybe none (λ x. some (change_of (j, x)))) w.held) in
+    let z = about_size (replica_of t) i.replica j c (ap (maybe None (λ x. Some (change_of (j, x)))) w.held) in
     record {
       accepted = ap (λ (o : Numbered). o.refusal) r;
       more = ap (λ (o : Numbered). o.value) r;

@@ -1,11 +1,12 @@
 -- Demand 2 of refile_save and refile_load: what is saved loads back, what is loaded saves back, and one image loads as each replica. Assumes nothing.
 use mathlib.Core.Path.{◌≡◌, refl, sym, ap, ◌∙◌}
+use Rattle.rules.specs.declared.Refusal.{Refusal}
+use Rattle.std.specs.Prelude.{Result}
 use mathlib.Core.List.{List, ◌++◌}
 use mathlib.Core.Logic.{◌↔◌}
 use Prim.Native.Nat.{ℕ, ◌≤◌}
 use native.Mathlib.Omega.{arith}
 use lib.ListN.{length, take, drop}
-use Rattle.rules.specs.declared.Answered.{Answered}
 use Rattle.rules.specs.Answer.{Numbered, accepted, answered_number}
 use Rattle.rules.specs.Choice.{first_that}
 use Rattle.rules.specs.Faults.{faults}
@@ -34,7 +35,7 @@ module _ {s out : List ℕ} {r : ℕ} {left : List ℕ} (k : Called C.save (s, o
   saved_room i h =
       let d = save_does k i in
       let f = save_fits {answer = (save (replica_of s) out).0} (record { does = record { answers = refl; left = d.1 } }) h in
-      let n : decode r ≡ accepted (length (image (replica_of s))) = d.0 ∙ ap (λ (a : Answered). answered_number a) f.0 in
+      let n : decode r ≡ accepted (length (image (replica_of s))) = d.0 ∙ ap (λ (a : Result ℕ Refusal). answered_number a) f.0 in
       (ap (λ (m : Numbered). m.refusal) n, ap (λ (m : Numbered). m.value) n, f.1)
 
   -- the largest image has as many bytes as a replica: a buffer of as many is never too short

@@ -1,7 +1,7 @@
 -- The fourteen cases of the C calls: what is seen is what the definitions show, and so the table. Assumes nothing.
 use mathlib.Core.Path.{◌≡◌, ap, ap₂, ◌∙◌}
 use mathlib.Core.List.{List, [], ◌∷◌}
-use mathlib.Core.Option.{none, some}
+use Rattle.std.specs.Prelude.{None, Some}
 use Prim.Native.Nat.{ℕ}
 use lib.ListN.{replicate}
 use Rattle.rules.specs.Choice.{maybe}
@@ -21,7 +21,7 @@ use Rattle.demands.proofs.LeafLaws.{leaves_read, winner_read}
 
 -- the reads see what the replica holds
 looked : (x : ℕ) (s : List ℕ) → IsStored s → (k : Reads s) → seen_in x s k ≡ wrote (decode x) (replica_of s).seq.0 (shorts (leaves (tree_of (replica_of s) lot)))
-    (maybe none (λ a. some (short a)) (winner (tree_of (replica_of s) lot)))
+    (maybe None (λ a. Some (short a)) (winner (tree_of (replica_of s) lot)))
 looked x s i k =
     let l = leaves_does k.asks_leaves i in
     let w = winner_does k.asks_winner i in
@@ -38,7 +38,7 @@ write_step s w m o i k =
     let e = d.1.means in (
       k.sees
           ∙ (looked k.result m d.1.is k.reads
-          ∙ λ j. wrote (d.0 j) (e j).seq.0 (shorts (leaves (tree_of (e j) lot))) (maybe none (λ a. some (short a)) (winner (tree_of (e j) lot)))),
+          ∙ λ j. wrote (d.0 j) (e j).seq.0 (shorts (leaves (tree_of (e j) lot))) (maybe None (λ a. Some (short a)) (winner (tree_of (e j) lot)))),
       d.1,
     )
 

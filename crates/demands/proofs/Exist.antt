@@ -1,7 +1,8 @@
 -- There are such calls: to any bytes that hold replicas, each of those that the theorems speak of. Assumes nothing.
 use mathlib.Core.Path.{◌≡◌, refl}
+use Rattle.std.specs.Prelude.{Result}
 use mathlib.Core.List.{List, [], ◌∷◌}
-use mathlib.Core.Option.{Option, none, some}
+use Rattle.std.specs.Prelude.{Option, None, Some}
 use Prim.Native.Nat.{ℕ, zero, suc, ◌*◌, ◌^◌, ◌<◌, ◌≤◌}
 use native.Mathlib.Omega.{arith}
 use borrow.Author.Tests.{eq-eqb}
@@ -16,7 +17,6 @@ use Rattle.rules.specs.declared.Content.{Content}
 use Rattle.rules.specs.declared.Content.TheVariants.{Live, Deleted}
 use Rattle.rules.specs.declared.Counts.{Counts}
 use Rattle.rules.specs.declared.Fault.{Fault}
-use Rattle.rules.specs.declared.Loaded.{Loaded}
 use Rattle.rules.specs.declared.Revision.{Revision}
 use Rattle.rules.specs.declared.Seq.{Seq}
 use Rattle.rules.specs.Answer.{Numbered, accepted, written_number, edited_number, answered_number, loaded_number}
@@ -91,7 +91,7 @@ module _ (f : Exported) (a : Dens (any_lifetimes f.n) f.ps) (x : ℕ) (s : AtExi
   }
 
 -- the promise of a call that meets no house refusal
-done : {L : Type 0} (c : CCall L) → first_that c.house ≡ none → Calls c (result_number c.does.0) c.does.1
+done : {L : Type 0} (c : CCall L) → first_that c.house ≡ None → Calls c (result_number c.does.0) c.does.1
 done c e = does e refl refl refl
 
 -- ---- fresh
@@ -132,20 +132,20 @@ write_exists s w i g a b = record {
 
 -- ---- edit: of a parent, where one is named, in the ranges of its types
 
-number_low : (p : Option Revision) → ((v : Revision) → p ≡ some v → v.number.0 < 4294967296) → parent_number p < 2 ^ 32
-number_low none f = omega arith
-number_low (some v) f = let h = f v refl in omega arith
+number_low : (p : Option Revision) → ((v : Revision) → p ≡ Some v → v.number.0 < 4294967296) → parent_number p < 2 ^ 32
+number_low None f = omega arith
+number_low (Some v) f = let h = f v refl in omega arith
 
 named_low : (p : Option Revision) → parent_named p < 2 ^ 32
-named_low none = omega arith
-named_low (some v) = omega arith
+named_low None = omega arith
+named_low (Some v) = omega arith
 
-hash_small : (p : Option Revision) → ((v : Revision) → p ≡ some v → length v.hash ≡ hash_size) → Small (parent_hash p)
-hash_small none f = omega arith
-hash_small (some v) f = let h = f v refl in omega arith
+hash_small : (p : Option Revision) → ((v : Revision) → p ≡ Some v → length v.hash ≡ hash_size) → Small (parent_hash p)
+hash_small None f = omega arith
+hash_small (Some v) f = let h = f v refl in omega arith
 
-pub edit_exists : (s : List ℕ) (e : Edit) → IsStored s → IsEdit e → Small e.id → ((v : Revision) → e.parent ≡ some v → length v.hash ≡ hash_size)
-    → ((v : Revision) → e.parent ≡ some v → v.number.0 < 4294967296)
+pub edit_exists : (s : List ℕ) (e : Edit) → IsStored s → IsEdit e → Small e.id → ((v : Revision) → e.parent ≡ Some v → length v.hash ≡ hash_size)
+    → ((v : Revision) → e.parent ≡ Some v → v.number.0 < 4294967296)
     → EditCall s e (result_number (edited_number (edit (replica_of s) e).0)) (stored (edit (replica_of s) e).1)
 edit_exists s e i g a y l = let p = e.parent in record {
   call = called C.edit
@@ -193,15 +193,15 @@ low_accepted zero v h = refl
 low_accepted (suc n) v h = absurd (omega arith)
 
 module _ (s image : List ℕ) (e : length s ≡ store_size) (g : Bytes image) (h : Small image) where
-  abbrev loading : Loaded × List ℕ
+  abbrev loading : Result (Unit {0}) (Fault × ℕ) × List ℕ
   loading = load_bytes s image (first_that (faults image))
 
   load_stands : result_number (loaded_number loading.0) < refused_from → IsStored loading.1
   load_stands = go (first_that (faults image)) refl
     where
       go : (o : Option (Fault × ℕ)) → first_that (faults image) ≡ o → result_number (loaded_number (load_bytes s image o).0) < refused_from → IsStored (load_bytes s image o).1
-      go none q k = (holding (replica_in image) _ (loaded_is_replica image g q).0 refl).is
-      go (some f) q k = absurd (no_fault f.0 (low_accepted (fault_number f.0) f.1 k))
+      go None q k = (holding (replica_in image) _ (loaded_is_replica image g q).0 refl).is
+      go (Some f) q k = absurd (no_fault f.0 (low_accepted (fault_number f.0) f.1 k))
 
   pub load_exists : LoadCall s image (result_number (loaded_number loading.0)) loading.1
   unfolding load_call

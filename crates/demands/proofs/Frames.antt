@@ -1,10 +1,12 @@
 -- "A write to one document changes no answer about another document's revisions, parents, leaves, contents, winner or own sequence": of the C calls. Assumes nothing.
 use mathlib.Core.Path.{◌≡◌, sym, ap, ◌∙◌, subst}
+use Rattle.rules.specs.declared.Refusal.{Refusal}
+use Rattle.rules.specs.declared.Outcome.{Outcome}
+use Rattle.std.specs.Prelude.{Result}
 use mathlib.Core.List.{List}
 use Prim.Native.Nat.{ℕ}
 use Rattle.rules.specs.declared.Counts.{Counts}
 use Rattle.rules.specs.declared.Seq.{Seq}
-use Rattle.rules.specs.declared.Written.{Written}
 use Rattle.rules.specs.Answer.{written_number}
 use Rattle.rules.specs.Edit.{Edit}
 use Rattle.rules.specs.Read.{documents_after}
@@ -52,6 +54,6 @@ pub write_alike : {s t : List ℕ} {w : Write} {x y : ℕ} {m n : List ℕ} → 
     → AlikeAt w.id (replica_of s) (replica_of t) → (x ≡ y) × AlikeAt w.id (replica_of m) (replica_of n)
 write_alike {s} {t} {w} k l i h a =
     let e = union.write_alike w (replica_of s) (replica_of t) a in (
-      write_answers k i ∙ (ap (λ (o : Written). result_number (written_number o)) e.0 ∙ sym (write_answers l h)),
+      write_answers k i ∙ (ap (λ (o : Result Outcome Refusal). result_number (written_number o)) e.0 ∙ sym (write_answers l h)),
       rw ((write_does k i).1.means, (write_does l h).1.means) e.1,
     )

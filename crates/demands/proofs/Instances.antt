@@ -3,7 +3,7 @@ use mathlib.Core.Path.{◌≡◌, refl, sym, ap, ap₂, ◌∙◌, subst}
 use mathlib.Core.Bool.{Bool, false, ◌||◌}
 use mathlib.Core.List.{List, [], ◌∷◌, ◌++◌}
 use mathlib.Core.Logic.{inl, inr}
-use mathlib.Core.Option.{none}
+use Rattle.std.specs.Prelude.{None}
 use Prim.Native.Nat.{ℕ, ◌*◌}
 use native.Mathlib.Omega.{arith}
 use borrow.Author.Tests.{leb-false, ltb-false}
@@ -373,7 +373,7 @@ beside_changes =
 -- an edit that makes the note, and refile_leaves asked for "lot"
 
 abbrev pub new : Edit
-new = record { id = note; hash = hash 0x10; content = Live 1; parent = none }
+new = record { id = note; hash = hash 0x10; content = Live 1; parent = None }
 
 new_is : IsEdit new
 new_is = record { id = (omega arith, (omega arith, tt)); hash = (omega arith, bytes_zeros 15); size = refl; content = omega arith }

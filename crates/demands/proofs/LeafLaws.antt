@@ -1,15 +1,15 @@
 -- The leaves and the winner of document "lot", read back from the bytes that the calls wrote. Assumes nothing.
 use mathlib.Core.Path.{◌≡◌, refl, sym, ap, ap₂, ◌∙◌}
+use Rattle.rules.specs.declared.Refusal.{Refusal}
+use Rattle.std.specs.Prelude.{Result, Ok, Err}
 use mathlib.Core.List.{List, [], ◌∷◌, ◌++◌, map}
 use mathlib.Core.Logic.{inl, inr}
-use mathlib.Core.Option.{Option, none, some}
+use Rattle.std.specs.Prelude.{Option, None, Some}
 use Prim.Native.Nat.{ℕ, ◌*◌, ◌/◌, ◌≤◌}
 use native.Mathlib.Omega.{arith}
 use borrow.Author.Tests.{le-ltb}
 use lib.ListN.{length, drop, get_or-append}
 use lib.Seq.{take_at}
-use Rattle.rules.specs.declared.Answered.{Answered}
-use Rattle.rules.specs.declared.Answered.TheVariants as answered
 use Rattle.rules.specs.declared.Refusal.TheVariants.{BadId, NoDocument}
 use Rattle.rules.specs.Answer.{Numbered, accepted, refused, answered_number}
 use Rattle.rules.specs.Bytes.{be, value, join, pieces}
@@ -81,16 +81,16 @@ module _ (t : Tree) (h : IsTree t) where
   -- the winner is one of them
   winner_back : (x : ℕ) (out left : List ℕ) → (o : Option LeafOf) → winner t ≡ o
       → decode x ≡ accepted (length (maybe [] leaf_bytes o)) → left ≡ front (maybe [] leaf_bytes o) out
-      → first_of (pairs_in (value_in x / leaf_size) left) ≡ maybe none (λ a. some (short a)) o
+      → first_of (pairs_in (value_in x / leaf_size) left) ≡ maybe None (λ a. Some (short a)) o
   unfolding front pairs_in pieces join shorts
-  winner_back x out left none e d l =
+  winner_back x out left None e d l =
       let n : value_in x ≡ 0 = ap (λ (m : Numbered). m.value) d in
       rw n refl
-  winner_back x out left (some a) e d l =
+  winner_back x out left (Some a) e d l =
       let c = ((winner_top t h.ascending a).0 e).0 in
       let z = leaf_size_lem t h a c in
       let n : value_in x / leaf_size ≡ 1 = let v : value_in x ≡ length (leaf_bytes a) = ap (λ (m : Numbered). m.value) d in omega arith in
-      rw (n, l, take_at (leaf_bytes a) (drop (length (leaf_bytes a)) out) leaf_size z) (ap some (pair_of t h a c))
+      rw (n, l, take_at (leaf_bytes a) (drop (length (leaf_bytes a)) out) leaf_size z) (ap Some (pair_of t h a c))
 
 -- ---- the calls
 
@@ -101,7 +101,7 @@ held_most [] d m = absurd m
 held_most (x ∷ ds) d (inl e) = let z : length d.1.tree ≡ length x.1.tree = ap (λ (y : Id × Document). length y.1.tree) e in omega arith
 held_most (x ∷ ds) d (inr m) = let h = held_most ds d m in omega arith
 
-tree_most : (r : Replica) → IsReplica r → (d : Document) → document_of r lot ≡ some d → length d.tree ≤ revisions_most
+tree_most : (r : Replica) → IsReplica r → (d : Document) → document_of r lot ≡ Some d → length d.tree ≤ revisions_most
 unfolding document_of
 tree_most r k d e = let h = held_most r.documents (lot, d) (find_in bytes_order r.documents lot d e) in let m = k.revisions_at_most in omega arith
 
@@ -111,21 +111,21 @@ refused_value x n d = ap (λ (m : Numbered). m.value) d
 
 module _ (r : Replica) (k : IsReplica r) (out : List ℕ) (room : revisions_most * leaf_size ≤ length out) where
   -- what a read of "lot" answers, of the document as it is held
-  abbrev lot_read : Option Document → ℕ → List ℕ → Answered × List ℕ
+  abbrev lot_read : Option Document → ℕ → List ℕ → Result ℕ Refusal × List ℕ
   lot_read o n bytes =
-      lend answered.Refused out (answered.Count n) bytes (first_that ((bad_id lot, BadId) ∷ (is_none o, NoDocument) ∷ short_buffer bytes out ∷ []))
+      lend Err out (Ok n) bytes (first_that ((bad_id lot, BadId) ∷ (is_none o, NoDocument) ∷ short_buffer bytes out ∷ []))
 
   -- absent, 12
-  lot_absent : (n : ℕ) (bytes : List ℕ) → lot_read none n bytes ≡ (answered.Refused NoDocument, out)
+  lot_absent : (n : ℕ) (bytes : List ℕ) → lot_read None n bytes ≡ (Err NoDocument, out)
   unfolding first_that bad_id
   lot_absent n bytes = refl
 
   -- held, and with room for it, the answer
-  lot_held : (d : Document) (n : ℕ) (bytes : List ℕ) → length bytes ≤ length out → lot_read (some d) n bytes ≡ (answered.Count n, front bytes out)
+  lot_held : (d : Document) (n : ℕ) (bytes : List ℕ) → length bytes ≤ length out → lot_read (Some d) n bytes ≡ (Ok n, front bytes out)
   unfolding first_that bad_id short_buffer
   lot_held d n bytes h = rw (le-ltb (length out) (length bytes) h)
 
-  tree_is : (d : Document) → document_of r lot ≡ some d → IsTree d.tree
+  tree_is : (d : Document) → document_of r lot ≡ Some d → IsTree d.tree
   tree_is d e = (k.documents lot d e).tree
 
   pub leaves_read : (x : ℕ) (left : List ℕ) → decode x ≡ answered_number (read_leaves r lot out).0 → left ≡ (read_leaves r lot out).1
@@ -133,38 +133,38 @@ module _ (r : Replica) (k : IsReplica r) (out : List ℕ) (room : revisions_most
   unfolding read_leaves reads document_refusals tree_of pairs_in pieces leaves shorts
   leaves_read x left = go (document_of r lot) refl
     where
-      said : Option Document → Answered × List ℕ
+      said : Option Document → Result ℕ Refusal × List ℕ
       said o = lot_read o (length (leaves (tree_in o))) (join (map leaf_bytes (leaves (tree_in o))))
 
       go : (o : Option Document) → document_of r lot ≡ o → decode x ≡ answered_number (said o).0 → left ≡ (said o).1 → pairs_in (value_in x) left ≡ shorts (leaves (tree_in o))
-      go none e d l =
+      go None e d l =
           let a = lot_absent 0 (join []) in
-          rw (refused_value x (refusal_number NoDocument) (d ∙ ap (λ (z : Answered × List ℕ). answered_number z.0) a)) refl
-      go (some t) e d l =
+          rw (refused_value x (refusal_number NoDocument) (d ∙ ap (λ (z : Result ℕ Refusal × List ℕ). answered_number z.0) a)) refl
+      go (Some t) e d l =
           let a = lot_held t (length (leaves t.tree)) (join (map leaf_bytes (leaves t.tree))) (fits t.tree (tree_is t e) (tree_most r k t e) out room) in
-          leaves_back t.tree (tree_is t e) x out left (d ∙ ap (λ (z : Answered × List ℕ). answered_number z.0) a) (l ∙ ap (λ (z : Answered × List ℕ). z.1) a)
+          leaves_back t.tree (tree_is t e) x out left (d ∙ ap (λ (z : Result ℕ Refusal × List ℕ). answered_number z.0) a) (l ∙ ap (λ (z : Result ℕ Refusal × List ℕ). z.1) a)
 
   pub winner_read : (x : ℕ) (left : List ℕ) → decode x ≡ answered_number (read_winner r lot out).0 → left ≡ (read_winner r lot out).1
-      → first_of (pairs_in (value_in x / leaf_size) left) ≡ maybe none (λ a. some (short a)) (winner (tree_of r lot))
+      → first_of (pairs_in (value_in x / leaf_size) left) ≡ maybe None (λ a. Some (short a)) (winner (tree_of r lot))
   unfolding read_winner reads document_refusals tree_of pairs_in pieces winner highest leaves
   winner_read x left = go (document_of r lot) refl
     where
       bytes : Option Document → List ℕ
       bytes o = maybe [] leaf_bytes (winner (tree_in o))
 
-      said : Option Document → Answered × List ℕ
+      said : Option Document → Result ℕ Refusal × List ℕ
       said o = lot_read o (length (bytes o)) (bytes o)
 
       short_one : (t : Document) → IsTree t.tree → (w : Option LeafOf) → winner t.tree ≡ w → length (maybe [] leaf_bytes w) ≤ length out
-      short_one t h none q = omega arith
-      short_one t h (some a) q = let z = leaf_size_lem t.tree h a ((winner_top t.tree h.ascending a).0 q).0 in omega arith
+      short_one t h None q = omega arith
+      short_one t h (Some a) q = let z = leaf_size_lem t.tree h a ((winner_top t.tree h.ascending a).0 q).0 in omega arith
 
       go : (o : Option Document) → document_of r lot ≡ o → decode x ≡ answered_number (said o).0 → left ≡ (said o).1
-          → first_of (pairs_in (value_in x / leaf_size) left) ≡ maybe none (λ a. some (short a)) (winner (tree_in o))
-      go none e d l =
+          → first_of (pairs_in (value_in x / leaf_size) left) ≡ maybe None (λ a. Some (short a)) (winner (tree_in o))
+      go None e d l =
           let a = lot_absent 0 [] in
-          rw (refused_value x (refusal_number NoDocument) (d ∙ ap (λ (z : Answered × List ℕ). answered_number z.0) a)) refl
-      go (some t) e d l =
-          let a = lot_held t (length (bytes (some t))) (bytes (some t)) (short_one t (tree_is t e) (winner t.tree) refl) in
+          rw (refused_value x (refusal_number NoDocument) (d ∙ ap (λ (z : Result ℕ Refusal × List ℕ). answered_number z.0) a)) refl
+      go (Some t) e d l =
+          let a = lot_held t (length (bytes (Some t))) (bytes (Some t)) (short_one t (tree_is t e) (winner t.tree) refl) in
           winner_back t.tree (tree_is t e) x out left (winner t.tree) refl
-          (d ∙ ap (λ (z : Answered × List ℕ). answered_number z.0) a) (l ∙ ap (λ (z : Answered × List ℕ). z.1) a)
+          (d ∙ ap (λ (z : Result ℕ Refusal × List ℕ). answered_number z.0) a) (l ∙ ap (λ (z : Result ℕ Refusal × List ℕ). z.1) a)

@@ -1,23 +1,21 @@
 -- Lines that the C calls take in and put out. Assumes nothing.
 use mathlib.Core.Path.{◌≡◌, refl, sym, ap, ◌∙◌, subst}
+use Rattle.rules.specs.declared.Outcome.{Outcome}
+use Rattle.std.specs.Prelude.{Result, Ok, Err}
 use mathlib.Core.Bool.{Bool, true, false}
 use mathlib.Core.List.{List, [], ◌∷◌, ◌++◌}
 use mathlib.Core.Logic.{◌↔◌, inl, inr}
-use mathlib.Core.Option.{Option, none, some}
+use Rattle.std.specs.Prelude.{Option, None, Some}
 use Prim.Native.Nat.{ℕ, ◌≤◌}
 use native.Mathlib.Omega.{arith}
 use borrow.Author.Tests.{ltb-true}
 use lib.Dec.{ltb}
 use lib.ListN.{length, take}
 use lib.Seq.{take_at}
-use Rattle.rules.specs.declared.Answered.{Answered}
-use Rattle.rules.specs.declared.Answered.TheVariants as answered
 use Rattle.rules.specs.declared.Refusal.{Refusal}
 use Rattle.rules.specs.declared.Refusal.TheVariants.{BadId, BadPath, LowNumber, OtherParent, OtherContent, DocumentsFull, RevisionsFull, SequenceSpent}
 use Rattle.rules.specs.declared.Refusal.TheVariants.{NotAParent, AlreadyKnown, LastNumber, NoDocument, NoRevision, ShortBuffer, BadAsked}
 use Rattle.rules.specs.declared.Refusal.TheVariants.{NotJson, BadMember, OtherRevisions, UnwritableId}
-use Rattle.rules.specs.declared.Written.{Written}
-use Rattle.rules.specs.declared.Written.TheVariants as written
 use Rattle.rules.specs.Answer.{Numbered, accepted, written_number, answered_number}
 use Rattle.rules.specs.Choice.{maybe, first_that}
 use Rattle.rules.specs.Pull.{offer}
@@ -76,9 +74,9 @@ only_forty x = elim x as (λ (k : Refusal). refusal_number k ≡ 40 → k ≡ No
 ]
 
 -- the answer whose number is 40
-forty_is : (o : Written) → (written_number o).refusal ≡ 40 → o ≡ written.Refused NotJson
-forty_is (written.Accepted o) e = absurd (omega arith)
-forty_is (written.Refused x) e = ap written.Refused (only_forty x e)
+forty_is : (o : Result Outcome Refusal) → (written_number o).refusal ≡ 40 → o ≡ Err NotJson
+forty_is (Ok o) e = absurd (omega arith)
+forty_is (Err x) e = ap Err (only_forty x e)
 
 module _ {s l : List ℕ} {ms : Option Members} {r : ℕ} {left : List ℕ} (k : Called C.take_in (s, l, ms) r left) (i : IsStored s) where
   -- lent a replica, it answers and leaves what taking in does of what the line holds
@@ -97,7 +95,7 @@ module _ {s l : List ℕ} {ms : Option Members} {r : ℕ} {left : List ℕ} (k :
       let f = unknown.forty_exactly (replica_of s) l (take_in (replica_of s) ms) take_in_takes in
       let e : refusal_in r ≡ (written_number (take_in (replica_of s) ms).0).refusal = ap (λ (n : Numbered). n.refusal) take_in_does.0 in (
         λ q. f.0 (forty_is (take_in (replica_of s) ms).0 (sym e ∙ q)),
-        λ n. e ∙ ap (λ (o : Written). (written_number o).refusal) (f.1 n),
+        λ n. e ∙ ap (λ (o : Result Outcome Refusal). (written_number o).refusal) (f.1 n),
       )
 
   -- "What we put out comes back as the same write": the line of a leaf of any replica's tree t, taken into s
@@ -106,7 +104,7 @@ module _ {s l : List ℕ} {ms : Option Members} {r : ℕ} {left : List ℕ} (k :
   comes_back d t h a m w e =
       let o : take_in (replica_of s) ms ≡ write (replica_of s) (offer d t a)
       = trip.put_comes_back d t h a m w (replica_of s) (take_in (replica_of s) ms) (subst (λ (x : List ℕ). TakesIn (replica_of s) x (take_in (replica_of s) ms)) e take_in_takes) in
-      subst (λ (x : Written × Replica). (decode r ≡ written_number x.0) × Holding x.1 left) o take_in_does
+      subst (λ (x : Result Outcome Refusal × Replica). (decode r ≡ written_number x.0) × Holding x.1 left) o take_in_does
 
 -- texts that hold the same members but for spaces and unknown members are the same write: calls with them,
 -- lent the same replica, say the same and leave the same bytes
@@ -116,15 +114,15 @@ unknown_passed {s} {l} {l'} k k' i a b h h' e =
     let o = unknown.unknown_passed (replica_of s) l l' a b h h' e _ _ (take_in_takes k i) (take_in_takes k' i) in
     let d = take_in_does k i in
     let d' = take_in_does k' i in
-    (d.0 ∙ (ap (λ (x : Written × Replica). written_number x.0) o ∙ sym d'.0), d.1.bytes ∙ (ap (λ (x : Written × Replica). stored x.1) o ∙ sym d'.1.bytes))
+    (d.0 ∙ (ap (λ (x : Result Outcome Refusal × Replica). written_number x.0) o ∙ sym d'.0), d.1.bytes ∙ (ap (λ (x : Result Outcome Refusal × Replica). stored x.1) o ∙ sym d'.1.bytes))
 
 -- ---- lines taken in one after the other
 
 record Does (ls : List (List ℕ)) (s left : List ℕ) (calls : TakeCalls ls s left) : Type 1 where
-  answers : List Written
+  answers : List (Result Outcome Refusal)
   takes : TakesAll (replica_of s) ls answers (replica_of left)
   is : IsStored left
-  each : (P : ℕ → Type 0) → ((x : Written) (r : ℕ) → In x answers → decode r ≡ written_number x → P r) → EachResult P ls s left calls
+  each : (P : ℕ → Type 0) → ((x : Result Outcome Refusal) (r : ℕ) → In x answers → decode r ≡ written_number x → P r) → EachResult P ls s left calls
 
 all_does : (ls : List (List ℕ)) (s left : List ℕ) → IsStored s → (calls : TakeCalls ls s left) → Does ls s left calls
 all_does [] s left i calls = record { answers = []; takes = ap replica_of (sym calls); is = subst IsStored calls i; each = λ P f. tt }
@@ -139,9 +137,9 @@ all_does (l ∷ ls) s left i calls =
       each = λ P f. (f o.0 calls.1 (inl refl) d.0, rest.each P (λ x r m e. f x r (inr m) e));
     }
 
-accepted_result : (x : Written) (r : ℕ) → union.IsAccepted x → decode r ≡ written_number x → IsAccepted r
-accepted_result (written.Accepted o) r h e = ap (λ (n : Numbered). n.refusal) e
-accepted_result (written.Refused n) r h e = absurd h
+accepted_result : (x : Result Outcome Refusal) (r : ℕ) → union.IsAccepted x → decode r ≡ written_number x → IsAccepted r
+accepted_result (Ok o) r h e = ap (λ (n : Numbered). n.refusal) e
+accepted_result (Err n) r h e = absurd h
 
 module _ {s : List ℕ} (i : IsStored s) (w : AllWritable (replica_of s)) (ls : List (List ℕ)) where
   -- all lines of a replica, in any order and with any repeats, taken into a fresh one: none is refused, and it
@@ -162,7 +160,7 @@ module _ {s : List ℕ} (i : IsStored s) (w : AllWritable (replica_of s)) (ls : 
   whole_stays h left calls =
       let d = all_does ls s left i calls in
       let c = whole.whole_stays (replica_of s) i.replica w ls h d.answers (replica_of left) d.takes in (
-        d.each (λ r. decode r ≡ accepted 0) (λ x r m e. e ∙ ap (λ (y : Written). written_number y) (c.unchanged x m)),
+        d.each (λ r. decode r ≡ accepted 0) (λ x r m e. e ∙ ap (λ (y : Result Outcome Refusal). written_number y) (c.unchanged x m)),
         d.is.same ∙ (ap stored c.same ∙ sym i.same),
       )
 
@@ -185,13 +183,13 @@ module _ {s out : List ℕ} {d : Id} {r : ℕ} {left : List ℕ} (k : Called C.p
   unfolding put_out reads front
   put_out_lines a = let o = put_out_does (put_out_from a) in go (first_that (put_refusals (replica_of s) d ++ (short_buffer lines out ∷ []))) o.0 o.1
     where
-      lent : Option Refusal → Answered × List ℕ
-      lent x = lend answered.Refused out (answered.Count (length lines)) lines x
+      lent : Option Refusal → Result ℕ Refusal × List ℕ
+      lent x = lend Err out (Ok (length lines)) lines x
 
       go : (x : Option Refusal) → decode r ≡ answered_number (lent x).0 → left ≡ (lent x).1
           → (value_in r ≡ length lines) × (left ≡ front lines out) × (take (value_in r) left ≡ lines)
-      go none e f = let v : value_in r ≡ length lines = ap (λ (n : Numbered). n.value) e in (v, f, ap (take (value_in r)) f ∙ take_at lines _ (value_in r) (sym v))
-      go (some x) e f = absurd (no_refusal x (sym (ap (λ (n : Numbered). n.refusal) e) ∙ a))
+      go None e f = let v : value_in r ≡ length lines = ap (λ (n : Numbered). n.value) e in (v, f, ap (take (value_in r)) f ∙ take_at lines _ (value_in r) (sym v))
+      go (Some x) e f = absurd (no_refusal x (sym (ap (λ (n : Numbered). n.refusal) e) ∙ a))
 
 -- a buffer of as many bytes as refile_put_out_size answers is never too short, and all of them are written
 module _ {s : List ℕ} {d : Id} {n : ℕ} (k : Called C.put_out_size (s, d) n tt) (a : IsAccepted n) {out : List ℕ} {r : ℕ} {left : List ℕ} (c : Called C.put_out (s, d, out) r left) where
@@ -214,11 +212,11 @@ module _ {s : List ℕ} {d : Id} {n : ℕ} (k : Called C.put_out_size (s, d) n t
       room true e m = absurd (let l = ltb-true (length out) (length bytes) e in omega arith)
       room false e m = refl
 
-      go : (x : Option Refusal) → first_that (put_refusals (replica_of s) d) ≡ x → decode n ≡ answered_number (maybe (answered.Count (length bytes)) answered.Refused x) → IsAccepted r × (value_in r ≡ value_in n)
-      go none e z =
+      go : (x : Option Refusal) → first_that (put_refusals (replica_of s) d) ≡ x → decode n ≡ answered_number (maybe (Ok (length bytes)) Err x) → IsAccepted r × (value_in r ≡ value_in n)
+      go None e z =
           let v : value_in n ≡ length bytes = ap (λ (m : Numbered). m.value) z in
           let f : ltb (length out) (length bytes) ≡ false = room (ltb (length out) (length bytes)) refl (omega arith) in
-          let p : first_that (put_refusals (replica_of s) d ++ (short_buffer bytes out ∷ [])) ≡ none = first_past (put_refusals (replica_of s) d) (short_buffer bytes out ∷ []) e ∙ rw f refl in
+          let p : first_that (put_refusals (replica_of s) d ++ (short_buffer bytes out ∷ [])) ≡ None = first_past (put_refusals (replica_of s) d) (short_buffer bytes out ∷ []) e ∙ rw f refl in
           let q : decode r ≡ accepted (length bytes) = (put_out_does c size_from).0 ∙ rw p refl in
           (ap (λ (m : Numbered). m.refusal) q, ap (λ (m : Numbered). m.value) q ∙ sym v)
-      go (some x) e z = absurd (no_refusal x (sym (ap (λ (m : Numbered). m.refusal) z) ∙ a))
+      go (Some x) e z = absurd (no_refusal x (sym (ap (λ (m : Numbered). m.refusal) z) ∙ a))

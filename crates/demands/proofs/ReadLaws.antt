@@ -1,9 +1,10 @@
 -- What each read answers and writes, lent a replica. Assumes nothing.
 use mathlib.Core.Path.{◌≡◌, refl, sym, ap, ◌∙◌}
+use Rattle.rules.specs.declared.Refusal.{Refusal}
+use Rattle.std.specs.Prelude.{Result}
 use mathlib.Core.Bool.{Bool}
 use mathlib.Core.List.{List, [], ◌∷◌}
 use Prim.Native.Nat.{ℕ}
-use Rattle.rules.specs.declared.Answered.{Answered}
 use Rattle.rules.specs.declared.Revision.{Revision}
 use Rattle.rules.specs.Answer.{Numbered, answered_number}
 use Rattle.rules.specs.Choice.{first_that}
@@ -50,7 +51,7 @@ same_calls p q e = (
 
 module _ (j : Id) (s t : List ℕ) (hs : IsStored s) (ht : IsStored t) (a : SameAnswers j (replica_of t) (replica_of s)) where
   -- a read of either is the same
-  same_read : (us : List (Bool × ℕ)) (out : List ℕ) (o p : Answered × List ℕ) → p ≡ o → outcome (read_call s us out o) ≡ outcome (read_call t us out p)
+  same_read : (us : List (Bool × ℕ)) (out : List ℕ) (o p : Result ℕ Refusal × List ℕ) → p ≡ o → outcome (read_call s us out o) ≡ outcome (read_call t us out p)
   unfolding outcome
   same_read us out o p e = rw (first_past (lent_house s) us (replica_passes s hs), first_past (lent_house t) us (replica_passes t ht), e) refl
 

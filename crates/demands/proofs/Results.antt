@@ -2,7 +2,7 @@
 use mathlib.Core.Path.{◌≡◌, refl, ap, subst, transport}
 use mathlib.Core.Bool.{Bool, true, false}
 use mathlib.Core.List.{List, []}
-use mathlib.Core.Option.{Option, none}
+use Rattle.std.specs.Prelude.{Option, None}
 use Prim.Native.Nat.{ℕ, ◌*◌, ◌^◌, ◌<◌, ◌≤◌}
 use native.Mathlib.Omega.{arith}
 use borrow.Author.Tests.{ltb-true, ltb-false}
@@ -127,7 +127,7 @@ take_in_lent = asked C.take_in (λ g. Lent g.0) (λ c. c.asks)
 
 -- past the house refusals the text of the line holds what the promise says
 pub take_in_holds : {s l : List ℕ} {ms : Option Members} {r : ℕ} {left : List ℕ} → Called C.take_in (s, l, ms) r left → IsStored s → Holds l ms
-take_in_holds {s} k i = asked C.take_in (λ g. first_that (lent_house g.0) ≡ none → Holds g.1 g.2) (λ c. c.promise.holds) k (replica_passes s i)
+take_in_holds {s} k i = asked C.take_in (λ g. first_that (lent_house g.0) ≡ None → Holds g.1 g.2) (λ c. c.promise.holds) k (replica_passes s i)
 
 pub put_out_lent : {given : (C.put_out).Given} {r : ℕ} {left : List ℕ} → Called C.put_out given r left → Lent given.0
 put_out_lent = asked C.put_out (λ g. Lent g.0) (λ c. c.asks)

@@ -1,7 +1,7 @@
 -- Calls of the exported functions: the arguments, the result and what is left of each buffer that was lent
 -- to be changed, with the function's own promise of them.
 use Rattle.std.specs.Prelude.{◌≡◌, List, [], ℕ, ◌<◌}
-use Rattle.std.proofs.Math.Option.{Option}
+use Rattle.std.specs.Prelude.{Option}
 use Rattle.std.specs.Int.{w64}
 use borrow.Fn.Kinds.{ParamKind, In, Out, r_num}
 use Rattle.rules.specs.declared.Revision.{Revision}

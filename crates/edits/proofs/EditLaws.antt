@@ -1,19 +1,18 @@
 -- An edit whose own refusals don't hold is the path write of its revision and parent: the form is good, and 4 and 5 never hold. Assumes nothing.
 use mathlib.Core.Path.{◌≡◌, refl, ap, ap₂, ◌∙◌}
+use Rattle.std.specs.Prelude.{Ok, Err}
 use mathlib.Core.Bool.{Bool, true, false, not, ◌||◌}
 use mathlib.Core.List.{List, [], ◌∷◌, ◌++◌, append-nil}
-use mathlib.Core.Option.{Option, none, some}
+use Rattle.std.specs.Prelude.{Option, None, Some}
 use Prim.Native.Nat.{ℕ, suc, ◌+◌, ◌*◌, ◌/◌, ◌%◌, ◌≤◌}
 use native.Mathlib.Omega.{arith}
 use lib.Dec.{eqb, ltb}
 use lib.ListN.{length, take, length-append}
 use lib.Seq.{take_at, drop_at, take_all}
 use borrow.Author.Tests.{le-ltb, eq-eqb, ne_eqb}
-use Rattle.rules.specs.declared.Edited.TheVariants as edited
 use Rattle.rules.specs.declared.Outcome.TheVariants.{Changed}
 use Rattle.rules.specs.declared.Refusal.{Refusal}
 use Rattle.rules.specs.declared.Revision.{Revision}
-use Rattle.rules.specs.declared.Written.TheVariants as written
 use Rattle.rules.specs.Bytes.{pieces}
 use Rattle.rules.specs.Choice.{any, maybe, first_that}
 use Rattle.rules.specs.Edit.{Edit, parent_of, parent_rule, new_number, as_write, already_known, last_number, edit_refusals, edit}
@@ -30,13 +29,13 @@ use Rattle.edits.specs.Edit.{answer_of}
 
 -- the parent, where there is one, has a hash of sixteen bytes and a number
 abbrev pub GoodParent : Option Revision → Type 0
-GoodParent none = Unit {0}
-GoodParent (some p) = (length p.hash ≡ hash_size) × (1 ≤ p.number.0)
+GoodParent None = Unit {0}
+GoodParent (Some p) = (length p.hash ≡ hash_size) × (1 ≤ p.number.0)
 
 -- the parent, as the path gives it
 abbrev parent_entry : Option Revision → List (Revision × Node)
-parent_entry none = []
-parent_entry (some p) = (p, record { parent = none; content = none }) ∷ []
+parent_entry None = []
+parent_entry (Some p) = (p, record { parent = None; content = None }) ∷ []
 
 pieces_one : (a : Hash) → length a ≡ hash_size → pieces 1 hash_size a ≡ a ∷ []
 unfolding pieces
@@ -51,14 +50,14 @@ abbrev tail : Option Revision → Hash
 tail o = maybe [] (λ p. p.hash) o
 
 abbrev hashes_of : Hash → Option Revision → List Hash
-hashes_of h none = h ∷ []
-hashes_of h (some p) = h ∷ p.hash ∷ []
+hashes_of h None = h ∷ []
+hashes_of h (Some p) = h ∷ p.hash ∷ []
 
 cut : (h : Hash) (o : Option Revision) → length h ≡ hash_size → GoodParent o → pieces (length (h ++ tail o) / hash_size) hash_size (h ++ tail o) ≡ hashes_of h o
-cut h none e g =
+cut h None e g =
     let l : length (h ++ []) / hash_size ≡ 1 = let q = length-append {A = ℕ} h [] in omega arith in
     ap₂ (λ (n : ℕ) (s : List ℕ). pieces n hash_size s) l (append-nil h) ∙ pieces_one h e
-cut h (some p) e g =
+cut h (Some p) e g =
     let l : length (h ++ p.hash) / hash_size ≡ 2 = let q = length-append h p.hash in let z = g.0 in omega arith in
     ap (λ (n : ℕ). pieces n hash_size (h ++ p.hash)) l ∙ pieces_two h p.hash e g.0
 
@@ -74,15 +73,15 @@ module _ (r : Replica) (e : Edit) (size : length e.hash ≡ hash_size) (good : G
   edit_hashes = cut e.hash o size good
 
   edit_gives :
-      gives w ≡ (revision (new_number r e).0 e.hash, record { parent = o; content = some e.content }) ∷ parent_entry o
+      gives w ≡ (revision (new_number r e).0 e.hash, record { parent = o; content = Some e.content }) ∷ parent_entry o
   unfolding gives along as_write new_number
-  edit_gives = ap (λ (hs : List Hash). along (new_number r e).0 hs (some e.content)) edit_hashes ∙ go o
+  edit_gives = ap (λ (hs : List Hash). along (new_number r e).0 hs (Some e.content)) edit_hashes ∙ go o
     where
       go : (q : Option Revision)
-          → along (suc (maybe 0 (λ p. p.number.0) q)) (hashes_of e.hash q) (some e.content)
-          ≡ (revision (suc (maybe 0 (λ p. p.number.0) q)) e.hash, record { parent = q; content = some e.content }) ∷ parent_entry q
-      go none = refl
-      go (some p) = refl
+          → along (suc (maybe 0 (λ p. p.number.0) q)) (hashes_of e.hash q) (Some e.content)
+          ≡ (revision (suc (maybe 0 (λ p. p.number.0) q)) e.hash, record { parent = q; content = Some e.content }) ∷ parent_entry q
+      go None = refl
+      go (Some p) = refl
 
   -- ---- the refusals of the form
 
@@ -91,13 +90,13 @@ module _ (r : Replica) (e : Edit) (size : length e.hash ≡ hash_size) (good : G
   path_length = length-append e.hash (tail o) ∙ go o good
     where
       go : (q : Option Revision) → GoodParent q → length e.hash + length (tail q) ≡ length (hashes_of e.hash q) * hash_size
-      go none g = let s = size in omega arith
-      go (some p) g = let s = size in let z = g.0 in omega arith
+      go None g = let s = size in omega arith
+      go (Some p) g = let s = size in let z = g.0 in omega arith
 
   counted : (q : Option Revision) → GoodParent q
       → (1 ≤ length (hashes_of e.hash q)) × (length (hashes_of e.hash q) ≤ 2) × (length (hashes_of e.hash q) ≤ suc (maybe 0 (λ p. p.number.0) q))
-  counted none g = (omega arith, omega arith, omega arith)
-  counted (some p) g = let z = g.1 in (omega arith, omega arith, omega arith)
+  counted None g = (omega arith, omega arith, omega arith)
+  counted (Some p) g = let z = g.1 in (omega arith, omega arith, omega arith)
 
   edit_path : bad_path w ≡ false
   unfolding bad_path
@@ -117,7 +116,7 @@ module _ (r : Replica) (e : Edit) (size : length e.hash ≡ hash_size) (good : G
       let l : length (hashes w) ≡ length (hashes_of e.hash o) = ap length edit_hashes in
       le-ltb w.number.0 (length (hashes w)) (let q = c.2 in omega arith)
 
-  pub edit_form : bad_id e.id ≡ false → first_that (form_refusals w) ≡ none
+  pub edit_form : bad_id e.id ≡ false → first_that (form_refusals w) ≡ None
   unfolding first_that as_write
   edit_form i = rw (i, edit_path, edit_number)
 
@@ -127,34 +126,34 @@ module _ (r : Replica) (e : Edit) (size : length e.hash ≡ hash_size) (good : G
   t = tree_of r w.id
 
   -- where nothing is given, nothing differs
-  none_given : {A : Type 0} (same : A → A → Bool) (f : Node → Option A) (n : Option Node) → maybe false (λ m. differ same (f m) none) n ≡ false
-  none_given same f none = refl
-  none_given same f (some n) = by (f n)
+  none_given : {A : Type 0} (same : A → A → Bool) (f : Node → Option A) (n : Option Node) → maybe false (λ m. differ same (f m) None) n ≡ false
+  none_given same f None = refl
+  none_given same f (Some n) = by (f n)
     where
-      by : (q : Option _) → differ same q none ≡ false
-      by none = refl
-      by (some a) = refl
+      by : (q : Option _) → differ same q None ≡ false
+      by None = refl
+      by (Some a) = refl
 
   -- the new revision is not known
   module _ (new : already_known r e ≡ false) where
     abbrev g : Revision × Node
-    g = (revision (new_number r e).0 e.hash, record { parent = o; content = some e.content })
+    g = (revision (new_number r e).0 e.hash, record { parent = o; content = Some e.content })
 
-    unknown : find order_rev g.0 t ≡ none
+    unknown : find order_rev g.0 t ≡ None
     unfolding already_known as_write
     unknown = go (find order_rev g.0 (tree_of r e.id)) new
       where
-        go : (n : Option Node) → not (is_none n) ≡ false → n ≡ none
-        go none z = refl
-        go (some n) z = let q : ◌≡◌ {A = ℕ} 0 1 = cc in absurd (omega arith)
+        go : (n : Option Node) → not (is_none n) ≡ false → n ≡ None
+        go None z = refl
+        go (Some n) z = let q : ◌≡◌ {A = ℕ} 0 1 = cc in absurd (omega arith)
 
-    any_entry : (p : Revision × Node → Bool) → p g ≡ false → ((q : Revision) → p (q, record { parent = none; content = none }) ≡ false) → any p (gives w) ≡ false
+    any_entry : (p : Revision × Node → Bool) → p g ≡ false → ((q : Revision) → p (q, record { parent = None; content = None }) ≡ false) → any p (gives w) ≡ false
     unfolding any
     any_entry p a b = ap (any p) edit_gives ∙ (ap (λ (x : Bool). x || any p (parent_entry o)) a ∙ go o)
       where
         go : (q : Option Revision) → any p (parent_entry q) ≡ false
-        go none = refl
-        go (some q) = ap (λ (x : Bool). x || false) (b q)
+        go None = refl
+        go (Some q) = ap (λ (x : Bool). x || false) (b q)
 
     edit_not_crossed : any (other_parent t) (gives w) ≡ false
     unfolding other_parent
@@ -182,7 +181,7 @@ module _ (r : Replica) (e : Edit) (size : length e.hash ≡ hash_size) (good : G
         rw (i, p, l, new, c, d, x, y, edit_adds) (go (first_that (room_refusals r w)))
       where
         go : (q : Option Refusal)
-            → settle edited.Refused r (edited.Accepted (new_number r e), added r w) q
-            ≡ (answer_of (new_number r e) (settle written.Refused r (written.Accepted Changed, added r w) q).0, (settle written.Refused r (written.Accepted Changed, added r w) q).1)
-        go none = refl
-        go (some n) = refl
+            → settle Err r (Ok (new_number r e), added r w) q
+            ≡ (answer_of (new_number r e) (settle Err r (Ok Changed, added r w) q).0, (settle Err r (Ok Changed, added r w) q).1)
+        go None = refl
+        go (Some n) = refl

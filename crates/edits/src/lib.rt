@@ -10,11 +10,11 @@ ghost use Rattle.writes.specs.Judge.{CanWrite};
 ghost use Rattle.writes.specs.Path.{write_of};
 ghost use Rattle.edits.specs.Edit.{edit_of, child_path, PathPut, ChildWritten, EditDone};
 
-use crate::parent::{Parent, last_number, next_number, parent_of, rule_met};
+use crate::parent::{last_number, next_number, parent_of, rule_met};
 use octets::run::put_hash;
-use rules::{Content, Edited, HASH, Refusal, RevNumber, Revision, Written};
+use rules::{Content, HASH, Refusal, RevNumber, Revision};
 use store::read::{bad_id, body_at, find_document};
-use tree::table::{Found, is_missing};
+use tree::table::is_missing;
 use writes::settle::write_to;
 
 mod parent;
@@ -23,70 +23,66 @@ mod parent;
 const PATH: usize = 2 * HASH;
 
 // Writes the new hash and its parent's, if it has one, and answers how many bytes they are.
-fn put_path(path: &mut [u8], hash: [u8; HASH], known: bool, parent: [u8; HASH]) -> usize
+fn put_path(path: &mut [u8], hash: [u8; HASH], parent: Option<Revision>) -> usize
     requires { length path.old ≡ 2 * hash_size }
-    ensures { PathPut hash known parent result path.new }
+    ensures { PathPut hash parent result path.new }
 {
     put_hash(path, 0, hash);
-    if known {
-        put_hash(path, HASH, parent);
-        return PATH;
+    match parent {
+        Some(rev) => {
+            put_hash(path, HASH, rev.hash);
+            PATH
+        }
+        None => HASH,
     }
-    HASH
 }
 
 // Makes the path write of the new revision and its parent, and answers the number where it is accepted.
 fn write_child(
     b: &mut [u8],
-    found: Found,
+    found: Result<usize, usize>,
     id: &[u8],
     number: RevNumber,
     hash: [u8; HASH],
-    p: Parent,
+    parent: Option<Revision>,
     content: Content,
-) -> Edited
-    requires { CanWrite b.old found (write_of id.now number (child_path hash p.known p.rev.hash) content) }
-    ensures { ChildWritten b.old (write_of id.now number (child_path hash p.known p.rev.hash) content) number result b.new }
+) -> Result<RevNumber, Refusal>
+    requires { CanWrite b.old found (write_of id.now number (child_path hash parent) content) }
+    ensures { ChildWritten b.old (write_of id.now number (child_path hash parent) content) number result b.new }
 {
-    let rev = p.rev;
-    let parent = rev.hash;
     let mut path = [0u8; PATH];
-    let end = put_path(&mut path, hash, p.known, parent);
-    match write_to(b, found, id, number, &path[..end], content) {
-        Written::Accepted(_) => Edited::Accepted(number),
-        Written::Refused(n) => Edited::Refused(n),
-    }
+    let end = put_path(&mut path, hash, parent);
+    write_to(b, found, id, number, &path[..end], content)?;
+    Ok(number)
 }
 
-// The ordinary edit: any id, any hash, any content, and a parent if one is named. (`parent` says
-// nothing where none is.)
+// The ordinary edit: any id, any hash, any content, and a parent if one is named.
 pub fn edit(
     b: &mut [u8],
     id: &[u8],
     hash: [u8; HASH],
     content: Content,
-    named: bool,
-    parent: Revision,
-) -> Edited
+    named: Option<Revision>,
+) -> Result<RevNumber, Refusal>
     requires { IsStored b.old }
-    ensures { EditDone b.old (edit_of id.now hash content named parent) result b.new }
+    ensures { EditDone b.old (edit_of id.now hash content named) result b.new }
 {
     if bad_id(id) {
-        return Edited::Refused(Refusal::BadId);
+        return Err(Refusal::BadId);
     }
     let found = find_document(b, id);
     let body = body_at(b, found);
-    let p = parent_of(b, body, named, parent);
-    if !rule_met(b, body, content, named, parent, p.known) {
-        return Edited::Refused(Refusal::NotAParent);
+    let parent = parent_of(b, body, named);
+    if !rule_met(b, body, content, named, parent) {
+        return Err(Refusal::NotAParent);
     }
-    if last_number(p) {
-        return Edited::Refused(Refusal::LastNumber);
+    if last_number(parent) {
+        return Err(Refusal::LastNumber);
     }
-    let number = next_number(p);
+    let number = next_number(parent);
     let rev = Revision { number, hash };
     if !is_missing(b, body, rev) {
-        return Edited::Refused(Refusal::AlreadyKnown);
+        return Err(Refusal::AlreadyKnown);
     }
-    write_child(b, found, id, number, hash, p, content)
+    write_child(b, found, id, number, hash, parent, content)
 }

@@ -2,7 +2,7 @@
 use mathlib.Core.Path.{◌≡◌, refl, sym, ap, ap₂, ◌∙◌, subst}
 use mathlib.Core.Bool.{Bool, true, false}
 use mathlib.Core.List.{List, [], ◌∷◌, ◌++◌, map}
-use mathlib.Core.Option.{Option, none, some}
+use Rattle.std.specs.Prelude.{Option, None, Some}
 use Prim.Native.Nat.{ℕ, zero, suc, ◌+◌, ◌-◌, ◌*◌, ◌≤◌, ◌<◌}
 use native.Mathlib.Nat.{add-zero, suc-add, add-suc}
 use native.Mathlib.Omega.{arith}
@@ -19,8 +19,8 @@ use Rattle.rules.proofs.MapLaws.{none≢some}
 use Rattle.layout.specs.Fields.{entry_place}
 use Rattle.images.proofs.Rules.{true_none, none_true}
 use Rattle.tree.specs.Table.{body}
-use Rattle.faults.specs.declared.Rule.{Rule}
-use Rattle.faults.specs.declared.Rule.TheVariants.{Rows, Links}
+use Rattle.faults.specs.Each.{Rule}
+use Rattle.faults.specs.Each.{Rows, Links}
 use Rattle.faults.specs.Places.{row_place, entry_at, rows_at}
 use Rattle.faults.specs.Each.{tests, rule_fault, Before, CanTest, CanPass}
 use Rattle.faults.proofs.FirstLaws.{items, entries_from, entries_all, entries_next, entries_none}
@@ -33,7 +33,7 @@ first_append k (true ∷ a) b = refl
 first_append k (false ∷ a) b = rw (add-suc k (length a), sym (suc-add k (length a))) (first_append (suc k) a b)
 
 -- wherever counting begins
-first_from : (k m : ℕ) (bs : List Bool) → first_true k bs ≡ none → first_true m bs ≡ none
+first_from : (k m : ℕ) (bs : List Bool) → first_true k bs ≡ None → first_true m bs ≡ None
 first_from k m bs e = none_true m bs (true_none k bs e)
 
 take-map : {A B : Type 0} (f : A → B) (n : ℕ) (l : List A) → take n (map f l) ≡ map f (take n l)
@@ -61,11 +61,11 @@ module _ {A : Type 0} (f : List ℕ → A) (w at n m : ℕ) (s : List ℕ) where
 size_rows : (before : Option Revision) (ws : List Row) → length (bad_rows before ws) ≡ length ws
 unfolding bad_rows
 size_rows before [] = refl
-size_rows before (w ∷ ws) = ap suc (size_rows (some w.rev) ws)
+size_rows before (w ∷ ws) = ap suc (size_rows (Some w.rev) ws)
 
 size_tests : (rule : Rule) (ws : List Row) → length (tests rule ws) ≡ length ws
 unfolding bad_links
-size_tests Rows ws = size_rows none ws
+size_tests Rows ws = size_rows None ws
 size_tests Links ws = length-map ws (bad_link ws)
 
 -- ---- from one document to the next
@@ -100,23 +100,23 @@ module _ (s : List ℕ) (d r i k n : ℕ) (h : i < d) (e : (entry_at i s).rows �
 
   -- where 25 finds nothing from here on, it finds nothing in this document and nothing after it
   before_next : (rule : Rule) → Before rule (each_from_lem Rows s d r i k)
-      → Before rule (first_true 0 (bad_rows none (rows_at (row_place d k) n s))) × Before rule (each_from_lem Rows s d r (i + 1) (k + n))
+      → Before rule (first_true 0 (bad_rows None (rows_at (row_place d k) n s))) × Before rule (each_from_lem Rows s d r (i + 1) (k + n))
   before_next Rows g = (tt, tt)
   before_next Links g =
-      let own : List Bool = bad_rows none (rows_at (row_place d k) n s) in
+      let own : List Bool = bad_rows None (rows_at (row_place d k) n s) in
       let b = neither (first_true k own) (each_from_lem Rows s d r (i + 1) (k + n)) (sym (each_next Rows) ∙ g) in
       (first_from k 0 own b.0, b.1)
     where
-      neither : (a b : Option ℕ) → or_else a b ≡ none → (a ≡ none) × (b ≡ none)
-      neither none b e = (refl, e)
-      neither (some x) b e = absurd (none≢some (sym e))
+      neither : (a b : Option ℕ) → or_else a b ≡ None → (a ≡ None) × (b ≡ None)
+      neither None b e = (refl, e)
+      neither (Some x) b e = absurd (none≢some (sym e))
 
 sum-next : (s : List ℕ) (d r i k n : ℕ) → i < d → (entry_at i s).rows ≡ n → k + sum_rows (entries_from i d s) ≡ r → k + n + sum_rows (entries_from (i + 1) d s) ≡ r
 unfolding sum_rows
 sum-next s d r i k n h e p =
     let x : sum_rows (entries_from i d s) ≡ (entry_at i s).rows + sum_rows (entries_from (i + 1) d s) = ap sum_rows (entries_next i d s h) in omega arith
 
-each_end : (rule : Rule) (s : List ℕ) (d r i k : ℕ) → d ≤ i → each_from_lem rule s d r i k ≡ none
+each_end : (rule : Rule) (s : List ℕ) (d r i k : ℕ) → d ≤ i → each_from_lem rule s d r i k ≡ None
 unfolding each_from_lem in_each deal first_true
 each_end rule s d r i k h = rw (entries_none i d s h)
 
@@ -144,15 +144,15 @@ passed_none rule s d p e =
       left = each_all rule s;
     })
 
-pub passed_all : (rule : Rule) (s : List ℕ) (d i k : ℕ) → d ≤ i → Passed rule s d i k → rule_fault rule s ≡ none
+pub passed_all : (rule : Rule) (s : List ℕ) (d i k : ℕ) → d ≤ i → Passed rule s d i k → rule_fault rule s ≡ None
 passed_all rule s d i k h p = p.left ∙ each_end rule s d (head_of s).revisions i k h
 
 -- how document i's n rows can be asked, behind k others, and what each answer leaves
 pub record Steps (rule : Rule) (s : List ℕ) (d i k n : ℕ) : Type 0 where
   pub room : k + n ≤ (head_of s).revisions
   pub can : CanTest rule (body (row_place d k) n) k s
-  pub bad : (b : ℕ) → first_true k (tests rule (rows_at (row_place d k) n s)) ≡ some b → rule_fault rule s ≡ some b
-  pub next : first_true k (tests rule (rows_at (row_place d k) n s)) ≡ none → Passed rule s d (i + 1) (k + n)
+  pub bad : (b : ℕ) → first_true k (tests rule (rows_at (row_place d k) n s)) ≡ Some b → rule_fault rule s ≡ Some b
+  pub next : first_true k (tests rule (rows_at (row_place d k) n s)) ≡ None → Passed rule s d (i + 1) (k + n)
 
 pub steps : (rule : Rule) (s : List ℕ) (d i k n : ℕ) → CanPass rule s → d ≡ (head_of s).documents → i < d → n ≡ (entry_at i s).rows → Passed rule s d i k
     → Steps rule s d i k n
@@ -169,6 +169,6 @@ steps rule s d i k n pre e h c p =
     record {
       room = room;
       can = record { within = omega arith; most = omega arith; before = before.0 };
-      bad = λ b q. else-next (some b) q;
-      next = λ q. record { most = omega arith; sum = sum; before = before.1; left = else-next none q };
+      bad = λ b q. else-next (Some b) q;
+      next = λ q. record { most = omega arith; sum = sum; before = before.1; left = else-next None q };
     }

@@ -1,24 +1,19 @@
 -- The id of an entry, and what fills it, where they stand in the image. Assumes nothing.
-use mathlib.Core.Path.{◌≡◌, refl, sym, ap, ap₂, ◌∙◌, subst}
-use mathlib.Core.Bool.{Bool, true, false, not, ◌&&◌}
+use mathlib.Core.Path.{◌≡◌, refl, sym, ap, ap₂, ◌∙◌}
+use mathlib.Core.Bool.{Bool, true, false, ◌&&◌}
 use mathlib.Core.List.{List, [], ◌∷◌, ◌++◌}
 use Prim.Native.Nat.{ℕ, suc, ◌+◌, ◌-◌, ◌≤◌}
 use native.Mathlib.Omega.{arith}
 use lib.Dec.{eqb}
 use lib.ListN.{length, get_or, take, drop, length-take, length-drop}
 use lib.Seq.{take_all, take-suc, get_or-drop}
-use borrow.Author.Tests.{eqb-true, eq-eqb}
 use Rattle.rules.specs.Bytes.{part, all_zero}
-use Rattle.rules.specs.Faults.{not_above}
 use Rattle.rules.specs.Layout.{entry_of, entry_size, id_in, entry_zero_in, count_in}
-use Rattle.rules.specs.Order.{order_bytes, is_less}
 use Rattle.rules.specs.Room.{id_most}
 use Rattle.rules.proofs.ByteLaws.{part-part}
-use Rattle.layout.specs.Fields as fields
 use Rattle.layout.specs.Fields.{entry_place}
 use Rattle.layout.proofs.FieldLaws.{get_d_part}
-use Rattle.images.proofs.Tests.{and_left, and_right}
-use Rattle.faults.specs.Places.{entry_at, id_before, FitsBefore, HasId}
+use Rattle.faults.specs.Places.{entry_at}
 
 drop-part : (m k n : ℕ) (s : List ℕ) → m ≤ n → drop m (part k n s) ≡ part (k + m) (n - m) s
 unfolding part
@@ -35,26 +30,6 @@ module _ (i : ℕ) (s : List ℕ) where
       → (entry_at i s).fill ≡ part (entry_place i + id_in + (entry_at i s).size) (id_most - (entry_at i s).size) s
   unfolding entry_of
   entry_fill h = ap (drop (get_or (part (entry_place i) entry_size s) 0 0)) (part-part id_in id_most (entry_place i) entry_size s (omega arith)) ∙ drop-part _ (entry_place i + id_in) id_most s h
-
--- ---- the order of ids
-
--- an id and the one before it, whose entry begins at `at`
-module _ (i : ℕ) (s : List ℕ) (has : HasId i s) (above : i ≡ 0 → ⊥) (at : ℕ) (e : at ≡ entry_place i - entry_size) where
-  before_at : entry_place (i - 1) ≡ at
-  before_at = omega arith
-
-  pub before_has : fields.HasId at s
-  before_has =
-      let w = has.entry.within in
-      let p : i ≡ suc (i - 1) = omega arith in
-      let m : (entry_at (i - 1) s).size ≤ id_most = subst (λ (k : ℕ). FitsBefore k s) p has.entry.before in
-      record { within = omega arith; most = subst (λ (n : ℕ). (entry_of (part n entry_size s)).size ≤ id_most) before_at m }
-
-  pub id_order : {x y : List ℕ} → x ≡ (entry_of (part at entry_size s)).id → y ≡ (entry_at i s).id
-      → not (is_less (order_bytes x y)) ≡ not_above (id_before i s) (entry_at i s).id
-  id_order p q =
-      let k : suc (i - 1) ≡ i = omega arith in
-      rw (p, q, sym before_at) (ap (λ (n : ℕ). not_above (id_before n s) (entry_at i s).id) k)
 
 -- ---- what fills an id, and the byte after it, which is zero
 
@@ -89,12 +64,3 @@ module _ (i : ℕ) (s : List ℕ) where
       ap (λ (n : ℕ). all_zero (take n (drop a s))) k
       ∙ (ap all_zero (take-suc (drop a s) j 0 (simp length-drop (omega arith)))
       ∙ (ap₂ (λ (x : List ℕ) (y : ℕ). all_zero (x ++ (y ∷ []))) f z ∙ zeros_append (entry_at i s).fill (entry_at i s).zero))
-
-  pub filled_if : all_zero (entry_at i s).fill ≡ true → (entry_at i s).zero ≡ 0 → filled ≡ true
-  filled_if f z = rw (f, eq-eqb (entry_at i s).zero 0 z)
-
-  pub filled_then : filled ≡ true → (all_zero (entry_at i s).fill ≡ true) × ((entry_at i s).zero ≡ 0)
-  filled_then e =
-      let a = all_zero (entry_at i s).fill in
-      let b = eqb (entry_at i s).zero 0 in
-      (and_left a b e, eqb-true (entry_at i s).zero 0 (and_right a b e))

@@ -1,5 +1,4 @@
 -- Laws that this crate's proofs share.
-pub mod TestLaws
 pub mod IdLaws
 pub mod FirstLaws
 pub mod JudgeLaws

@@ -1,9 +1,14 @@
 -- A document's ordered rows by their places: their order, the run in which a parent lies, and the marks. Assumes nothing.
 use mathlib.Core.Path.{◌≡◌, refl, sym, ap, ap₂, ◌∙◌, subst}
+use Rattle.std.specs.declared.cmp.Ordering.TheVariants.{Less, Equal, Greater}
+use Rattle.std.specs.declared.cmp.Ordering.{Ordering}
+use Rattle.std.specs.Prelude.{Result, Ok, Err}
 use mathlib.Core.Bool.{Bool, true, false, not, ◌||◌}
 use mathlib.Core.List.{List, [], ◌∷◌, ◌++◌, map}
 use mathlib.Core.Logic.{⊎_elim}
-use mathlib.Core.Option.{Option, none, some}
+use Rattle.std.specs.Prelude.{Option, None, Some, MatchOption}
+use Rattle.std.specs.Option.{option_map, option_or}
+use Rattle.std.specs.Bool.{then_some}
 use Prim.Native.Nat.{ℕ, zero, suc, pred, ◌+◌, ◌-◌, ◌*◌, ◌≤◌, ◌<◌, min}
 use native.Mathlib.Nat.{add-zero, add-suc, eq-or-lt_of_le, le_refl}
 use native.Mathlib.Numerals.{add-one}
@@ -12,8 +17,6 @@ use lib.Dec.{eqb, leb, ltb}
 use lib.ListN.{length, get_or, set, take, drop, length-set, replicate, length-replicate, get_or-replicate, replicate-append-replicate}
 use lib.Seq.{take_at, get_or-set_same, get_or-set_other, drop-drop}
 use borrow.Author.Tests.{eq-eqb, ne_eqb, eqb-true, eqb-false, leb-true, leb-false, ltb-true, ltb-false}
-use Rattle.rules.specs.declared.Order.{Order}
-use Rattle.rules.specs.declared.Order.TheVariants.{Less, Equal, Greater}
 use Rattle.rules.specs.declared.Revision.{Revision}
 use Rattle.rules.specs.Bytes.{part, pieces}
 use Rattle.rules.specs.Choice.{pick, any}
@@ -32,8 +35,6 @@ use Rattle.images.proofs.Rows.{RowRules, row_rules}
 use Rattle.images.proofs.Rules.{true_none}
 use Rattle.images.proofs.Trees.{RowsHold, rows_back}
 use Rattle.tree.specs.declared.table.Body.{Body}
-use Rattle.tree.specs.declared.table.Found.{Found}
-use Rattle.tree.specs.declared.table.Found.TheVariants.{At, Gap}
 use Rattle.tree.specs.Rows.{meaning, row_from, node_held, node_at, rev_at}
 use Rattle.tree.specs.Table.{body, tree_at, place_of, Searchable}
 use Rattle.tree.proofs.EditionLaws.{tree_held}
@@ -41,12 +42,13 @@ use Rattle.tree.proofs.TableLaws.{length-tree, tree_take, tree_cut}
 use Rattle.tree.proofs.RowLaws.{rev_greater}
 use Rattle.tree.proofs.PlaceLaws.{place_at}
 use Rattle.tree.proofs.SearchLaws.{rev_in, rev_in_lem, ascends, ascending_take, found_here}
-use Rattle.faults.specs.declared.Rule.TheVariants.{Links}
+use Rattle.faults.specs.Each.{Links}
 use Rattle.faults.specs.declared.links.Run.{Run}
 use Rattle.faults.specs.declared.links.Parent.{Parent}
 use Rattle.faults.specs.declared.links.Parent.TheVariants.{Unknown, Missing, Among}
 use Rattle.faults.specs.Each.{CanTest}
 use Rattle.faults.specs.Places.{row_at, rows_at}
+use Rattle.faults.proofs.FirstLaws.{found}
 use Rattle.faults.proofs.RowLaws.{rows_from, rows_all, rows_next, rows_none}
 use Rattle.faults.specs.Links.{row_on, number_on, Ordered, run_on, Serves, among, parent_among, parent_on, CanLink, missing, misfit, bit, Marks, FirstMissing, Marked}
 
@@ -117,15 +119,15 @@ unfolding same_rev
 same_self v = ap is_equal (rev_order.self v)
 
 -- "A parent's number is one lower."
-parent_below : (w : Row) (p : Revision) → 1 ≤ w.rev.number.0 → parent_of_row w ≡ some p → suc p.number.0 ≡ w.rev.number.0
+parent_below : (w : Row) (p : Revision) → 1 ≤ w.rev.number.0 → parent_of_row w ≡ Some p → suc p.number.0 ≡ w.rev.number.0
 unfolding parent_of_row
 parent_below w p h e = go (eqb w.flag 0) e
   where
-    go : (b : Bool) → pick b none (some (revision (pred w.rev.number.0) w.parent)) ≡ some p → suc p.number.0 ≡ w.rev.number.0
+    go : (b : Bool) → pick b None (Some (revision (pred w.rev.number.0) w.parent)) ≡ Some p → suc p.number.0 ≡ w.rev.number.0
     go true q = absurd (none≢some q)
     go false q = let k : pred w.rev.number.0 ≡ p.number.0 = ap (λ (v : Revision). v.number.0) (some_inj q) in omega arith
 
-same_not : (o : Order) → (o ≡ Equal → ⊥) → is_equal o ≡ false
+same_not : (o : Ordering) → (o ≡ Equal → ⊥) → is_equal o ≡ false
 same_not Less h = refl
 same_not Equal h = absurd (h refl)
 same_not Greater h = refl
@@ -139,8 +141,8 @@ pub rows_ordered : (b : Body) (k : ℕ) (s : List ℕ) → CanTest Links b k s �
 rows_ordered b k s p = let m = p.most in record { within = p.within; most = omega arith; good = p.before }
 
 module _ (base n : ℕ) (s : List ℕ) (o : Ordered base n s) where
-  held : RowsHold none (rows_at base n s)
-  held = rows_back none (rows_at base n s) (true_none 0 (bad_rows none (rows_at base n s)) o.good)
+  held : RowsHold None (rows_at base n s)
+  held = rows_back None (rows_at base n s) (true_none 0 (bad_rows None (rows_at base n s)) o.good)
 
   tree_ascends : Ascending order_rev (tree_at base n s)
   unfolding rows_at
@@ -244,7 +246,7 @@ module _ (base n : ℕ) (s : List ℕ) (o : Ordered base n s) where
         rev_in_lem (base + run.lo * row_size) (run.hi - run.lo) i s h ∙ ap (λ (k : ℕ). (row_at k s).rev) e
 
     -- found there
-    pub run_found : (p : Revision) (i : ℕ) → place_of 0 p run_tree ≡ At i → (run.lo + i < n) × ((row_on base (run.lo + i) s).rev ≡ p)
+    pub run_found : (p : Revision) (i : ℕ) → place_of 0 p run_tree ≡ Ok i → (run.lo + i < n) × ((row_on base (run.lo + i) s).rev ≡ p)
     run_found p i e =
         let q = place_at i p run_tree e in
         let l = q.within in
@@ -254,7 +256,7 @@ module _ (base n : ℕ) (s : List ℕ) (o : Ordered base n s) where
         (omega arith, sym (in_run i h) ∙ q.is)
 
     -- not found there, so nowhere among the rows
-    run_missing : (p : Revision) (i : ℕ) → suc p.number.0 ≡ number_on base j s → place_of 0 p run_tree ≡ Gap i
+    run_missing : (p : Revision) (i : ℕ) → suc p.number.0 ≡ number_on base j s → place_of 0 p run_tree ≡ Err i
         → (m : ℕ) → m < n → same_rev p (row_on base m s).rev ≡ false
     unfolding same_rev
     run_missing p i below e m h = same_not (order_rev p (row_on base m s).rev) (λ q. not_here q (ltb m run.lo) refl (ltb m run.hi) refl)
@@ -297,15 +299,15 @@ module _ (base n : ℕ) (s : List ℕ) (o : Ordered base n s) where
     same_turned a b e =
         same_not (order_rev b a) (λ q. true≢false (sym (ap is_equal (rev_order.self a)) ∙ (ap (λ (x : Revision). is_equal (order_rev a x)) (sym (rev_order.same b a q)) ∙ e)))
 
-    linked_some : (p : Revision) → parent_of_row (row_on base j s) ≡ some p → suc p.number.0 ≡ number_on base j s
-        → (f : Found) → place_of 0 p run_tree ≡ f → Linked (among run.lo f)
+    linked_some : (p : Revision) → parent_of_row (row_on base j s) ≡ Some p → suc p.number.0 ≡ number_on base j s
+        → (f : Result ℕ ℕ) → place_of 0 p run_tree ≡ f → Linked (among run.lo f)
     unfolding missing is_parent_of
-    linked_some p e below (Gap i) q =
+    linked_some p e below (Err i) q =
         let none_is = run_missing p i below q in (
           rw e (ap not (any_none base s (λ x. same_rev p x.rev) n none_is)),
           λ m h. rw e (same_turned p (row_on base m s).rev (none_is m h)),
         )
-    linked_some p e below (At i) q =
+    linked_some p e below (Ok i) q =
         let f = run_found p i q in (
           f.0,
           rw e (ap not (any_some base s (λ x. same_rev p x.rev) n (run.lo + i) f.0 (ap (same_rev p) f.1 ∙ same_self p))),
@@ -321,8 +323,8 @@ module _ (base n : ℕ) (s : List ℕ) (o : Ordered base n s) where
 
     linked_as : (r : Option Revision) → parent_of_row (row_on base j s) ≡ r → Linked (parent_among run.lo run_tree r)
     unfolding missing is_parent_of
-    linked_as none e = (rw e refl, λ m h. rw e refl)
-    linked_as (some p) e = linked_some p e (parent_below (row_on base j s) p (row_good j here).number e) (place_of 0 p run_tree) refl
+    linked_as None e = (rw e refl, λ m h. rw e refl)
+    linked_as (Some p) e = linked_some p e (parent_below (row_on base j s) p (row_good j here).number e) (place_of 0 p run_tree) refl
 
     linked : (r : Parent) → parent_on base run j s ≡ r → Linked r
     unfolding parent_on
@@ -498,19 +500,19 @@ module _ (base n k : ℕ) (s : List ℕ) where
   unfoldable pub links_from : ℕ → Option ℕ
   links_from j = first_true (k + j) (map (bad_link (rows_at base n s)) (rows_from base j n s))
 
-  pub links_all : first_true k (bad_links (rows_at base n s)) ≡ links_from 0
+  links_all : first_true k (bad_links (rows_at base n s)) ≡ links_from 0
   unfolding links_from bad_links
   links_all = rw (add-zero k) (ap (λ (l : List Row). first_true k (map (bad_link (rows_at base n s)) l)) (rows_all base n s))
 
-  pub links_bad : (j : ℕ) → j < n → bad_link (rows_at base n s) (row_on base j s) ≡ true → links_from j ≡ some (k + j)
+  links_bad : (j : ℕ) → j < n → bad_link (rows_at base n s) (row_on base j s) ≡ true → links_from j ≡ Some (k + j)
   unfolding links_from first_true
   links_bad j h e = rw (rows_next base j n s h, e)
 
-  pub links_next : (j : ℕ) → j < n → bad_link (rows_at base n s) (row_on base j s) ≡ false → links_from j ≡ links_from (j + 1)
+  links_next : (j : ℕ) → j < n → bad_link (rows_at base n s) (row_on base j s) ≡ false → links_from j ≡ links_from (j + 1)
   unfolding links_from first_true
   links_next j h e = rw (rows_next base j n s h, e, add-one j, add-suc k j)
 
-  pub links_end : (j : ℕ) → n ≤ j → links_from j ≡ none
+  links_end : (j : ℕ) → n ≤ j → links_from j ≡ None
   unfolding links_from first_true
   links_end j h = rw (rows_none base j n s h)
 
@@ -519,7 +521,7 @@ module _ (base n k : ℕ) (s : List ℕ) where
   unfolding bad_link missing misfit
   link_kind j e = rw e
 
-  pub link_missing : (j : ℕ) → missing (rows_at base n s) (row_on base j s) ≡ true → bad_link (rows_at base n s) (row_on base j s) ≡ true
+  link_missing : (j : ℕ) → missing (rows_at base n s) (row_on base j s) ≡ true → bad_link (rows_at base n s) (row_on base j s) ≡ true
   unfolding bad_link missing
   link_missing j e = rw e
 
@@ -531,10 +533,32 @@ mark_kind base n j s ms h k =
     ap (λ (b : Bool). pick b (not (eqb (row_on base j s).kind 0)) (eqb (row_on base j s).kind 0))
     (ap (λ (x : ℕ). eqb x 1) (k.each j h) ∙ bit_back (any (is_parent_of (row_on base j s).rev) (rows_at base n s)))
 
--- so a kind and a mark say whether a row is bad, where its parent is there
-pub kind_says : (base n j : ℕ) (s ms : List ℕ) (kind : ℕ) → j < n → Marks base n n s ms → (row_on base j s).kind ≡ kind
-    → missing (rows_at base n s) (row_on base j s) ≡ false
-    → pick (eqb (get_or ms j 0) 1) (not (eqb kind 0)) (eqb kind 0) ≡ bad_link (rows_at base n s) (row_on base j s)
-kind_says base n j s ms kind h k e f =
-    ap (λ (x : ℕ). pick (eqb (get_or ms j 0) 1) (not (eqb x 0)) (eqb x 0)) (sym e)
-    ∙ (mark_kind base n j s ms h k ∙ sym (link_kind base n 0 s j f))
+module _ (base n k : ℕ) (s ms : List ℕ) (first : ℕ) (m : Marked base n n s ms first) where
+  -- row j's kind doesn't fit its mark
+  abbrev pub unfit : ℕ → Bool
+  unfit j = pick (eqb (get_or ms j 0) 1) (not (eqb (row_on base j s).kind 0)) (eqb (row_on base j s).kind 0)
+
+  -- so a kind and a mark say whether a row is bad, where its parent is there
+  unfit_bad : (j : ℕ) → j < first → bad_link (rows_at base n s) (row_on base j s) ≡ unfit j
+  unfit_bad j h =
+      let most = m.missing.most in
+      link_kind base n k s j (m.missing.before j (omega arith) h) ∙ sym (mark_kind base n j s ms (omega arith) m.marks)
+
+  abbrev pub last_missing : Option ℕ
+  last_missing = then_some (ltb first n) first
+
+  -- of the rows up to the first whose parent is missing the first unfit one is the first bad row, or else that one
+  pub kinds_found : (r : Option ℕ)
+      → MatchOption r ((i : ℕ) → 0 ≤ i → i < first → unfit i ≡ false) (λ j. (0 ≤ j) × (j < first) × (unfit j ≡ true) × ((i : ℕ) → 0 ≤ i → i < j → unfit i ≡ false))
+      → option_map (λ j. k + j) (option_or r last_missing) ≡ first_true k (bad_links (rows_at base n s))
+  kinds_found r f = found first k unfit (links_from base n k s) hit miss last_missing (end (ltb first n) refl) r f ∙ sym (links_all base n k s)
+    where
+      hit : (j : ℕ) → j < first → unfit j ≡ true → links_from base n k s j ≡ Some (k + j)
+      hit j h e = let most = m.missing.most in links_bad base n k s j (omega arith) (unfit_bad j h ∙ e)
+
+      miss : (j : ℕ) → j < first → unfit j ≡ false → links_from base n k s j ≡ links_from base n k s (j + 1)
+      miss j h e = let most = m.missing.most in links_next base n k s j (omega arith) (unfit_bad j h ∙ e)
+
+      end : (b : Bool) → ltb first n ≡ b → links_from base n k s first ≡ option_map (λ j. k + j) (then_some b first)
+      end true q = let h = ltb-true first n q in links_bad base n k s first h (link_missing base n k s first (m.missing.at h))
+      end false q = links_end base n k s first (ltb-false first n q)

@@ -1,20 +1,19 @@
 -- What is said of a whole image.
 use Rattle.std.specs.Prelude.{◌≡◌, List, [], ◌∷◌, ℕ, ◌≤◌}
-use Rattle.std.proofs.Math.Option.{Option, none, some}
+use Rattle.std.specs.Prelude.{Result, Ok, Err}
+use Rattle.std.specs.Prelude.{Option, None, Some}
 use Rattle.rules.specs.declared.Fault.{Fault}
 use Rattle.rules.specs.declared.Fault.TheVariants.{BadContents, BadSequence, BadRow, BadParent}
 use Rattle.rules.specs.Choice.{first_that}
 use Rattle.rules.specs.Faults.{bad_contents, bad_sequence, at}
 use Rattle.rules.specs.Refusal.{fault_number}
-use Rattle.faults.specs.declared.Rule.TheVariants.{Rows, Links}
-use Rattle.faults.specs.declared.Judged.{Judged}
-use Rattle.faults.specs.declared.Judged.TheVariants.{Fine, Bad}
+use Rattle.faults.specs.Each.{Rows, Links}
 use Rattle.faults.specs.Each.{rule_fault}
 
 -- the fault and its place, if there is one
-abbrev pub judged : Judged → Option (Fault × ℕ)
-judged Fine = none
-judged (Bad f p) = some (f, p)
+abbrev pub judged : Result (Unit {0}) (Fault × ℕ) → Option (Fault × ℕ)
+judged (Ok u) = None
+judged (Err (f, p)) = Some (f, p)
 
 -- n is the number of a fault, which is one of seven
 pub record NumberOf (f : Fault) (n : ℕ) : Type 0 where

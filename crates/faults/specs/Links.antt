@@ -1,6 +1,7 @@
 -- Parents and children among a document's rows.
 use Rattle.std.specs.Prelude.{◌≡◌, Bool, true, false, not, List, ℕ, suc, ◌+◌, ◌-◌, ◌*◌, ◌≤◌, ◌<◌, eqb, length, get_or, replicate}
-use Rattle.std.proofs.Math.Option.{Option, none, some}
+use Rattle.std.specs.Prelude.{Result, Ok, Err}
+use Rattle.std.specs.Prelude.{Option, None, Some}
 use Rattle.rules.specs.declared.Revision.{Revision}
 use Rattle.rules.specs.Choice.{pick, maybe, any}
 use Rattle.rules.specs.Faults.{first_true, bad_rows, is_parent_of}
@@ -10,13 +11,11 @@ use Rattle.rules.specs.Order.{same_rev}
 use Rattle.rules.specs.Replica.{Tree}
 use Rattle.rules.specs.Room.{revisions_most}
 use Rattle.tree.specs.declared.table.Body.{Body}
-use Rattle.tree.specs.declared.table.Found.{Found}
-use Rattle.tree.specs.declared.table.Found.TheVariants.{At, Gap}
 use Rattle.tree.specs.Table.{tree_at, place_of}
 use Rattle.faults.specs.declared.links.Run.{Run}
 use Rattle.faults.specs.declared.links.Parent.{Parent}
 use Rattle.faults.specs.declared.links.Parent.TheVariants.{Unknown, Missing, Among}
-use Rattle.faults.specs.declared.Rule.TheVariants.{Links}
+use Rattle.faults.specs.Each.{Links}
 use Rattle.faults.specs.Places.{row_at, rows_at}
 use Rattle.faults.specs.Each.{CanTest}
 
@@ -31,7 +30,7 @@ number_on base m s = (row_on base m s).rev.number.0
 pub record Ordered (base n : ℕ) (s : List ℕ) : Type 0 where
   pub within : base + n * row_size ≤ length s
   pub most : n ≤ revisions_most
-  pub good : first_true 0 (bad_rows none (rows_at base n s)) ≡ none
+  pub good : first_true 0 (bad_rows None (rows_at base n s)) ≡ None
 
 -- ---- where a row's parent is: "A parent's number is one lower", and the row gives its hash
 
@@ -47,13 +46,13 @@ pub record Serves (base j : ℕ) (run : Run) (s : List ℕ) : Type 0 where
   pub below : (m : ℕ) → m < run.hi → number_on base m s < number_on base run.hi s
   pub top : (m : ℕ) → m < j → number_on base m s ≤ number_on base run.hi s
 
-abbrev pub among : ℕ → Found → Parent
-among lo (At i) = Among (lo + i)
-among lo (Gap i) = Missing
+abbrev pub among : ℕ → Result ℕ ℕ → Parent
+among lo (Ok i) = Among (lo + i)
+among lo (Err i) = Missing
 
 abbrev pub parent_among : ℕ → Tree → Option Revision → Parent
-parent_among lo t none = Unknown
-parent_among lo t (some p) = among lo (place_of 0 p t)
+parent_among lo t None = Unknown
+parent_among lo t (Some p) = among lo (place_of 0 p t)
 
 -- where the parent of row j is, sought among the rows of the run
 unfoldable pub parent_on : ℕ → Run → ℕ → List ℕ → Parent

@@ -1,6 +1,6 @@
 -- Places of faults, and the entries and rows that are looked at.
 use Rattle.std.specs.Prelude.{◌≡◌, List, [], ◌∷◌, map, ℕ, zero, suc, ◌+◌, ◌*◌, ◌≤◌, length, drop}
-use Rattle.std.proofs.Math.Option.{Option, none, some}
+use Rattle.std.specs.Prelude.{Option, None, Some}
 use Rattle.rules.specs.Bytes.{part, pieces}
 use Rattle.rules.specs.declared.Revision.{Revision}
 use Rattle.rules.specs.Faults.{sum_rows}
@@ -10,12 +10,6 @@ use Rattle.rules.specs.Replica.{Id}
 use Rattle.rules.specs.Room.{documents_most, revisions_most, id_most}
 use Rattle.layout.specs.Fields.{entry_place}
 use Rattle.tree.specs.declared.table.Body.{Body}
-use Rattle.faults.specs.declared.Place.{Place}
-use Rattle.faults.specs.declared.Place.TheVariants.{Nowhere, At}
-
-abbrev pub placed : Place → Option ℕ
-placed Nowhere = none
-placed (At p) = some p
 
 -- what 20 to 22 leave: the image is as long as its head says
 pub record Headed (s : List ℕ) : Type 0 where
@@ -34,8 +28,8 @@ entry_at i s = entry_of (part (entry_place i) entry_size s)
 
 -- the id before entry i's
 abbrev pub id_before : ℕ → List ℕ → Option Id
-id_before zero s = none
-id_before (suc i) s = some (entry_at i s).id
+id_before zero s = None
+id_before (suc i) s = Some (entry_at i s).id
 
 -- the id before is as long as an id can be
 abbrev pub FitsBefore : ℕ → List ℕ → Type 0
@@ -79,5 +73,5 @@ rows_in b s = rows_at b.base b.rows s
 
 -- the revision of the row before row j
 abbrev pub rev_before : ℕ → ℕ → List ℕ → Option Revision
-rev_before base zero s = none
-rev_before base (suc j) s = some (row_at (base + j * row_size) s).rev
+rev_before base zero s = None
+rev_before base (suc j) s = Some (row_at (base + j * row_size) s).rev

@@ -1,51 +1,41 @@
 // 25 and 26 over the rows of each document.
 ghost use Rattle.std.specs.Prelude.{◌≡◌};
 ghost use Rattle.rules.specs.Faults.{first_true};
-ghost use Rattle.faults.specs.Places.{placed, rows_in};
-ghost use Rattle.faults.specs.Each.{tests, rule_fault, CanTest, CanPass};
+ghost use Rattle.faults.specs.Places.{rows_in};
+ghost use Rattle.faults.specs.Each.{Rule, tests, rule_fault, CanTest, CanPass};
 
-use crate::links::links_in;
-use crate::rows::rows_in;
-use crate::{Place, Rule};
 use layout::entry::rows;
 use layout::head::documents;
 use layout::{ENTRY, HEAD, ROW};
 use tree::table::Body;
 
-// The first of a document's rows that is bad by a rule. The first of them is the k-th of all.
-fn rule_in(s: &[u8], rule: Rule, body: Body, k: usize) -> Place
-    requires { CanTest rule body k s.now }
-    ensures { placed result ≡ first_true k (tests rule (rows_in body s.now)) }
-{
-    match rule {
-        Rule::Rows => rows_in(s, body, k),
-        Rule::Links => links_in(s, body, k),
-    }
+// A rule by which a document's rows are asked.
+pub(crate) trait Ask {
+    ghost rule: { Rule };
+
+    // The first of a document's rows that is bad by the rule. The first of them is the k-th of all.
+    fn first_bad(s: &[u8], body: Body, k: usize) -> Option<usize>
+        requires { CanTest rule body k s.now }
+        ensures { result ≡ first_true k (tests rule (rows_in body s.now)) };
 }
 
 // The first row of all that is bad by a rule.
-pub(crate) fn rule_fault(s: &[u8], rule: Rule) -> Place
-    requires { CanPass rule s.now }
-    ensures { placed result ≡ rule_fault rule s.now }
+pub(crate) fn rule_fault<A: Ask>(s: &[u8]) -> Option<usize>
+    requires { CanPass A.rule s.now }
+    ensures { result ≡ rule_fault A.rule s.now }
 {
     let d = documents(s);
     let mut k = 0;
-    let mut i = 0;
-    while i < d {
+    for i in 0..d {
         let n = rows(s, HEAD + ENTRY * i);
-        let first = k;
         let body = Body {
-            base: HEAD + ENTRY * d + ROW * first,
+            base: HEAD + ENTRY * d + ROW * k,
             rows: n,
         };
-        k += n;
-        i += 1;
-        match rule_in(s, rule, body, first) {
-            Place::At(p) => {
-                return Place::At(p);
-            }
-            Place::Nowhere => {}
+        if let Some(p) = A::first_bad(s, body, k) {
+            return Some(p);
         }
+        k += n;
     }
-    Place::Nowhere
+    None
 }

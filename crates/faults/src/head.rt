@@ -7,6 +7,7 @@ use layout::head::{documents, head_zero, revisions, total};
 use layout::{ENTRY, HEAD, ROW};
 use rules::{DOCUMENTS, REVISIONS};
 
+#[tactic(auto, unfolding(rules::specs::Faults::bad_head))]
 pub(crate) fn head_bad(s: &[u8]) -> bool
     requires { head_size ≤ length s.now }
     ensures { result ≡ bad_head s.now }
@@ -14,17 +15,9 @@ pub(crate) fn head_bad(s: &[u8]) -> bool
     let d = documents(s);
     let r = revisions(s);
     let given = total(s) as usize;
-    if head_zero(s) != 0 {
-        return true;
-    }
-    if DOCUMENTS < d {
-        return true;
-    }
-    if REVISIONS < r {
-        return true;
-    }
-    if given != HEAD + ENTRY * d + ROW * r {
-        return true;
-    }
-    given != s.len()
+    head_zero(s) != 0
+        || DOCUMENTS < d
+        || REVISIONS < r
+        || given != HEAD + ENTRY * d + ROW * r
+        || given != s.len()
 }

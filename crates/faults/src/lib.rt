@@ -3,7 +3,7 @@
 // the laws of the crate images. Rows are searched by the crate tree.
 #![tactic(auto)]
 
-ghost use Rattle.std.specs.Prelude.{◌≡◌};
+ghost use Rattle.std.specs.Prelude.{◌≡◌, option_map};
 ghost use Rattle.rules.specs.Choice.{first_that};
 ghost use Rattle.rules.specs.Faults.{faults};
 ghost use Rattle.faults.specs.Places.{Headed};
@@ -12,6 +12,8 @@ ghost use Rattle.faults.specs.Judged.{judged, body_fault, NumberOf};
 use crate::contents::contents_fault;
 use crate::each::rule_fault;
 use crate::head::head_bad;
+use crate::links::AskLinks;
+use crate::rows::AskRows;
 use crate::sequence::sequence_fault;
 use layout::HEAD;
 use layout::head::edition;
@@ -24,28 +26,7 @@ mod links;
 mod rows;
 mod sequence;
 
-// Where the first fault of a kind is.
-#[derive(Clone, Copy)]
-enum Place {
-    Nowhere,
-    At(usize),
-}
-
-// What is asked of a document's rows: 25, or 26 where 25 finds nothing.
-#[derive(Clone, Copy)]
-enum Rule {
-    Rows,
-    Links,
-}
-
-// What is wrong with an image, and where.
-#[derive(Clone, Copy)]
-pub enum Judged {
-    Fine,
-    Bad(Fault, usize),
-}
-
-// The number of a fault.
+// The number of a fault. It is no `From`, since neither `Fault` nor `u32` is a type of this crate.
 pub fn fault_number(f: Fault) -> u32
     ensures { NumberOf f result }
 {
@@ -60,38 +41,36 @@ pub fn fault_number(f: Fault) -> u32
     }
 }
 
+// The fault at its place, if there is one.
+fn at(f: Fault, place: Option<usize>) -> Result<(), (Fault, usize)>
+    ensures { judged result ≡ option_map (λ p. (f, p)) place }
+{
+    place.map_or(Ok(()), |p| Err((f, p)))
+}
+
 // 23 to 26, in this order.
-fn body_fault(s: &[u8]) -> Judged
+fn body_fault(s: &[u8]) -> Result<(), (Fault, usize)>
     requires { Headed s.now }
     ensures { judged result ≡ body_fault s.now }
 {
-    if let Place::At(p) = contents_fault(s) {
-        return Judged::Bad(Fault::BadContents, p);
-    }
-    if let Place::At(p) = sequence_fault(s) {
-        return Judged::Bad(Fault::BadSequence, p);
-    }
-    if let Place::At(p) = rule_fault(s, Rule::Rows) {
-        return Judged::Bad(Fault::BadRow, p);
-    }
-    if let Place::At(p) = rule_fault(s, Rule::Links) {
-        return Judged::Bad(Fault::BadParent, p);
-    }
-    Judged::Fine
+    at(Fault::BadContents, contents_fault(s))?;
+    at(Fault::BadSequence, sequence_fault(s))?;
+    at(Fault::BadRow, rule_fault::<AskRows>(s))?;
+    at(Fault::BadParent, rule_fault::<AskLinks>(s))
 }
 
 // The first fault of an image, of whatever bytes it is.
-pub fn fault(s: &[u8]) -> Judged
+pub fn fault(s: &[u8]) -> Result<(), (Fault, usize)>
     ensures { judged result ≡ first_that (faults s.now) }
 {
     if s.len() < HEAD {
-        return Judged::Bad(Fault::TooShort, 0);
+        return Err((Fault::TooShort, 0));
     }
     if edition(s) != 1 {
-        return Judged::Bad(Fault::BadEdition, 0);
+        return Err((Fault::BadEdition, 0));
     }
     if head_bad(s) {
-        return Judged::Bad(Fault::BadHead, 0);
+        return Err((Fault::BadHead, 0));
     }
     body_fault(s)
 }

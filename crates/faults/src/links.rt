@@ -3,26 +3,26 @@ ghost use Rattle.std.specs.Prelude.{◌≡◌, not, ◌+◌, ◌*◌, ◌≤◌,
 ghost use Rattle.rules.specs.Choice.{pick};
 ghost use Rattle.rules.specs.Faults.{first_true, bad_links};
 ghost use Rattle.rules.specs.Layout.{row_size};
-ghost use Rattle.faults.specs.declared.Rule.TheVariants.{Links};
-ghost use Rattle.faults.specs.Places.{placed, rows_in};
+ghost use Rattle.faults.specs.Each.{Links};
+ghost use Rattle.faults.specs.Places.{rows_in};
 ghost use Rattle.faults.specs.Each.{CanTest};
 ghost use Rattle.faults.specs.Links.{run_on, parent_on, CanLink, Marked, CanMark, CanJudge, CanFind};
 
-use crate::Place;
+use crate::each::Ask;
 use layout::ROW;
 use layout::row::{kind, known, number, parent};
-use octets::number::lesser;
 use rules::{REVISIONS, RevNumber, Revision};
-use tree::table::{Body, Found, find};
+use tree::table::{Body, find};
 
-// Rows lo to hi, among which a parent is sought.
+// Rows lo to hi, among which a parent is sought. The library's range can't be copied.
 #[derive(Clone, Copy)]
 struct Run {
     lo: usize,
     hi: usize,
 }
 
-// A row's parent: none is known, it isn't in the document, or it is a row there.
+// A row's parent: none is known, it isn't in the document, or it is a row there. An Option in an Option would leave two
+// of the three without a name.
 #[derive(Clone, Copy)]
 enum Parent {
     Unknown,
@@ -66,11 +66,11 @@ fn parent_of(s: &[u8], base: usize, run: Run, j: usize) -> Parent
         rows: run.hi - lo,
     };
     match find(s, body, rev) {
-        Found::At(i) => {
+        Ok(i) => {
             let there = lo + i;
             Parent::Among(there)
         }
-        Found::Gap(_) => Parent::Missing,
+        Err(_) => Parent::Missing,
     }
 }
 
@@ -84,15 +84,12 @@ fn mark_parents(s: &[u8], body: Body, marks: &mut [u8]) -> usize
     let n = body.rows;
     let mut run = Run { lo: 0, hi: 0 };
     let mut missing = n;
-    let mut j = 0;
-    while j < n {
+    for j in 0..n {
         run = run_at(s, base, run, j);
-        let here = j;
-        j += 1;
-        match parent_of(s, base, run, here) {
+        match parent_of(s, base, run, j) {
             Parent::Unknown => {}
             Parent::Missing => {
-                missing = lesser(missing, here);
+                missing = missing.min(j);
             }
             Parent::Among(i) => {
                 marks[i] = 1;
@@ -106,46 +103,39 @@ fn mark_parents(s: &[u8], body: Body, marks: &mut [u8]) -> usize
 fn kind_bad(kind: u8, mark: u8) -> bool
     ensures { result ≡ pick (eqb mark 1) (not (eqb kind 0)) (eqb kind 0) }
 {
-    if mark == 1 {
-        return kind != 0;
-    }
-    kind == 0
+    (mark == 1) != (kind == 0)
 }
 
 // The first bad one of a document's marked rows, of which the first is the k-th of all.
-fn kinds_in(s: &[u8], body: Body, k: usize, missing: usize, marks: &[u8]) -> Place
+fn kinds_in(s: &[u8], body: Body, k: usize, missing: usize, marks: &[u8]) -> Option<usize>
     requires { CanJudge body.base body.rows k missing s.now marks.now }
-    ensures { placed result ≡ first_true k (bad_links (rows_in body s.now)) }
+    ensures { result ≡ first_true k (bad_links (rows_in body s.now)) }
 {
     let base = body.base;
-    let mut j = 0;
-    while j < missing {
-        if kind_bad(kind(s, base + j * ROW), marks[j]) {
-            return Place::At(k + j);
-        }
-        j += 1;
-    }
-    if missing < body.rows {
-        return Place::At(k + missing);
-    }
-    Place::Nowhere
+    (0..missing)
+        .find(|&j| kind_bad(kind(s, base + j * ROW), marks[j]))
+        .or((missing < body.rows).then_some(missing))
+        .map(|j| k + j)
 }
 
 // The same of rows that are not marked yet.
-fn links_with(s: &[u8], body: Body, k: usize, marks: &mut [u8]) -> Place
+fn links_with(s: &[u8], body: Body, k: usize, marks: &mut [u8]) -> Option<usize>
     requires { CanFind body k s.now marks.old }
-    ensures { placed result ≡ first_true k (bad_links (rows_in body s.now)) }
+    ensures { result ≡ first_true k (bad_links (rows_in body s.now)) }
 {
     let n = body.rows;
     let missing = mark_parents(s, body, &mut marks[..n]);
     kinds_in(s, body, k, missing, &marks[..n])
 }
 
-// The same, with room for the marks.
-pub(crate) fn links_in(s: &[u8], body: Body, k: usize) -> Place
-    requires { CanTest Links body k s.now }
-    ensures { placed result ≡ first_true k (bad_links (rows_in body s.now)) }
-{
-    let mut marks = [0u8; REVISIONS];
-    links_with(s, body, k, &mut marks)
+// 26, where 25 finds nothing.
+pub(crate) struct AskLinks;
+
+impl Ask for AskLinks {
+    ghost rule = { Links };
+
+    fn first_bad(s: &[u8], body: Body, k: usize) -> Option<usize> {
+        let mut marks = [0u8; REVISIONS];
+        links_with(s, body, k, &mut marks)
+    }
 }

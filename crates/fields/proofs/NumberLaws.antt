@@ -1,20 +1,19 @@
 -- How a loop over digits meets the number that they are. Assumes nothing.
 use mathlib.Core.Path.{◌≡◌, refl, sym, ◌∙◌}
-use mathlib.Core.Bool.{Bool, true, false, not, ◌&&◌}
+use mathlib.Core.Bool.{Bool, true, false, not, ◌&&◌, true≢false}
+use mathlib.Core.Logic.{inl, inr}
 use mathlib.Core.List.{List, [], ◌∷◌}
-use mathlib.Core.Option.{Option, none, some}
+use Rattle.std.specs.Prelude.{Option, None, Some}
 use Prim.Native.Nat.{ℕ, ◌+◌, ◌*◌, ◌-◌, ◌≤◌, ◌<◌}
 use native.Mathlib.Numerals.{add-one}
 use native.Mathlib.Omega.{arith}
 use lib.Dec.{eqb, leb}
 use lib.ListN.{length, get_or, drop, drop_of_length-le}
 use lib.Seq.{drop-cons}
-use borrow.Author.Tests.{le-leb, lt-leb}
+use borrow.Author.Tests.{eqb-true, le-leb, lt-leb}
+use Rattle.std.specs.Char.{IsAsciiDigit, IsNotAsciiDigit}
 use Rattle.rules.specs.Choice.{pick}
 use Rattle.lines.specs.Said.{all, is_digit, decimal_from, decimal_value, is_empty, spare_zero, read_number}
-use Rattle.fields.specs.declared.NumberSaid.{NumberSaid}
-use Rattle.fields.specs.declared.NumberSaid.TheVariants.{Said, Wrong}
-use Rattle.fields.specs.Fields.{number_said}
 
 and_false : (b : Bool) → (b && false) ≡ false
 and_false true = refl
@@ -40,12 +39,12 @@ spare_first (c ∷ d ∷ t) h = go (eqb c 48)
 
 -- ---- before the loop
 
-pub number_empty : (most : ℕ) (t : List ℕ) → length t ≡ 0 → read_number most t ≡ none
+pub number_empty : (most : ℕ) (t : List ℕ) → eqb (length t) 0 ≡ true → read_number most t ≡ None
 unfolding read_number
 number_empty most [] e = refl
-number_empty most (c ∷ t) e = absurd (omega arith)
+number_empty most (c ∷ t) e = absurd (let z = eqb-true (length (c ∷ t)) 0 e in omega arith)
 
-pub number_spare : (most : ℕ) (t : List ℕ) → spare_zero t ≡ true → read_number most t ≡ none
+pub number_spare : (most : ℕ) (t : List ℕ) → spare_zero t ≡ true → read_number most t ≡ None
 unfolding read_number
 number_spare most t e = rw (e, and_false (all is_digit t), and_false (not (is_empty t))) refl
 
@@ -53,11 +52,11 @@ number_spare most t e = rw (e, and_false (all is_digit t), and_false (not (is_em
 
 -- what is left after the digits of v
 unfoldable pub rest : ℕ → ℕ → List ℕ → Option ℕ
-rest most v t = pick (all is_digit t && leb (decimal_from v t) most) (some (decimal_from v t)) none
+rest most v t = pick (all is_digit t && leb (decimal_from v t) most) (Some (decimal_from v t)) None
 
-pub number_start : (most : ℕ) (t : List ℕ) → (length t ≡ 0 → ⊥) → spare_zero t ≡ false → read_number most t ≡ rest most 0 t
+pub number_start : (most : ℕ) (t : List ℕ) → eqb (length t) 0 ≡ false → spare_zero t ≡ false → read_number most t ≡ rest most 0 t
 unfolding read_number rest decimal_value
-number_start most [] h e = absurd (h refl)
+number_start most [] h e = absurd (true≢false h)
 number_start most (c ∷ t) h e = rw e refl
 
 from_grows : (v : ℕ) (t : List ℕ) → v ≤ decimal_from v t
@@ -65,34 +64,23 @@ unfolding decimal_from
 from_grows v [] = omega arith
 from_grows v (c ∷ t) = let k = from_grows (v * 10 + (c - 48)) t in omega arith
 
-excess : (most w : ℕ) (u : List ℕ) → most < w → rest most w u ≡ none
+excess : (most w : ℕ) (u : List ℕ) → most < w → rest most w u ≡ None
 unfolding rest
 excess most w u y = let g = from_grows w u in rw (lt-leb (decimal_from w u) most (omega arith), and_false (all is_digit u)) refl
 
 module _ (most v : ℕ) (t : List ℕ) (i : ℕ) (h : i < length t) where
-  pub rest_low : get_or t i 0 < 48 → rest most v (drop i t) ≡ none
+  pub rest_other : IsNotAsciiDigit (get_or t i 0) → rest most v (drop i t) ≡ None
   unfolding rest all is_digit
-  rest_low k = rw (drop-cons t i 0 h, lt-leb 48 (get_or t i 0) k) refl
+  rest_other (inl k) = rw (drop-cons t i 0 h, lt-leb 48 (get_or t i 0) k) refl
+  rest_other (inr k) = rw (drop-cons t i 0 h, lt-leb (get_or t i 0) 57 k, and_false (leb 48 (get_or t i 0))) refl
 
-  pub rest_high : 57 < get_or t i 0 → rest most v (drop i t) ≡ none
-  unfolding rest all is_digit
-  rest_high k = rw (drop-cons t i 0 h, lt-leb (get_or t i 0) 57 k, and_false (leb 48 (get_or t i 0))) refl
-
-  pub rest_more : 48 ≤ get_or t i 0 → get_or t i 0 ≤ 57 → rest most v (drop i t) ≡ rest most (v * 10 + (get_or t i 0 - 48)) (drop (i + 1) t)
+  pub rest_more : IsAsciiDigit (get_or t i 0) → rest most v (drop i t) ≡ rest most (v * 10 + (get_or t i 0 - 48)) (drop (i + 1) t)
   unfolding rest all is_digit decimal_from
-  rest_more k m = rw (drop-cons t i 0 h, le-leb 48 (get_or t i 0) k, le-leb (get_or t i 0) 57 m, add-one i) refl
+  rest_more k = rw (drop-cons t i 0 h, le-leb 48 (get_or t i 0) k.0, le-leb (get_or t i 0) 57 k.1, add-one i) refl
 
-  pub rest_excess : 48 ≤ get_or t i 0 → get_or t i 0 ≤ 57 → most < v * 10 + (get_or t i 0 - 48) → rest most v (drop i t) ≡ none
-  rest_excess k m x = rest_more k m ∙ excess most (v * 10 + (get_or t i 0 - 48)) (drop (i + 1) t) x
+  pub rest_excess : IsAsciiDigit (get_or t i 0) → most < v * 10 + (get_or t i 0 - 48) → rest most v (drop i t) ≡ None
+  rest_excess k x = rest_more k ∙ excess most (v * 10 + (get_or t i 0 - 48)) (drop (i + 1) t) x
 
-pub rest_done : (most v : ℕ) (t : List ℕ) (i : ℕ) → length t ≤ i → v ≤ most → rest most v (drop i t) ≡ some v
+pub rest_done : (most v : ℕ) (t : List ℕ) (i : ℕ) → length t ≤ i → v ≤ most → rest most v (drop i t) ≡ Some v
 unfolding rest all decimal_from
 rest_done most v t i h k = rw (drop_of_length-le t h, le-leb v most k) refl
-
--- ---- one answer for what is said
-
-pub said_one : (x y : NumberSaid) → number_said x ≡ number_said y → x ≡ y
-said_one (Said a) (Said b) e = let q : a ≡ b = cc in cc
-said_one (Said a) Wrong e = absurd (let z : ◌≡◌ {A = ℕ} 0 1 = cc in omega arith)
-said_one Wrong (Said b) e = absurd (let z : ◌≡◌ {A = ℕ} 0 1 = cc in omega arith)
-said_one Wrong Wrong e = refl

@@ -1,12 +1,9 @@
 -- Each public function has one outcome. Assumes nothing.
-use mathlib.Core.Path.{refl, sym, ◌∙◌}
+use mathlib.Core.Path.{refl}
 use Rattle.rules.specs.Outcome.{OneOutcome, nothing}
 use Rattle.rules.proofs.OutcomeLaws.{fixed}
-use Rattle.fields.proofs.NumberLaws.{said_one}
 use Rattle.fields.proofs.read_number.Kinds as read_number
 use Rattle.fields.proofs.read_number.Reads as read-number'
-use Rattle.fields.proofs.put_hash.Kinds as put-hash
-use Rattle.fields.proofs.put_hash.Reads as put-hash'
 use Rattle.fields.proofs.read_hash.Kinds as read-hash
 use Rattle.fields.proofs.read_hash.Reads as read-hash'
 use Rattle.fields.proofs.read_rev.Kinds as read-rev
@@ -19,16 +16,13 @@ use Rattle.fields.proofs.which_name.Kinds as which-name
 use Rattle.fields.proofs.which_name.Reads as which-name'
 
 pub read_number_outcome : OneOutcome _ read_number.ps read_number.r read-number'.Asked read-number'.Learnt nothing
-read_number_outcome κs a x y s t h p q = (said_one x y (p ∙ sym q), refl)
-
-pub put_hash_outcome : OneOutcome _ put-hash.ps put-hash.r put-hash'.Asked put-hash'.Learnt (λ κs s. s.1.0.now)
-put_hash_outcome κs a x y s t h p q = (fixed p.is q.is, fixed p.left q.left)
+read_number_outcome κs a x y s t h p q = (fixed p q, refl)
 
 pub read_hash_outcome : OneOutcome _ read-hash.ps read-hash.r read-hash'.Asked read-hash'.Learnt nothing
-read_hash_outcome κs a x y s t h p q = (fixed p.exact q.exact, refl)
+read_hash_outcome κs a x y s t h p q = (fixed p q, refl)
 
 pub read_rev_outcome : OneOutcome _ read-rev.ps read-rev.r read-rev'.Asked read-rev'.Learnt nothing
-read_rev_outcome κs a x y s t h p q = (fixed p.exact q.exact, refl)
+read_rev_outcome κs a x y s t h p q = (fixed p q, refl)
 
 pub is_unwritable_outcome : OneOutcome _ is-unwritable.ps is-unwritable.r is-unwritable'.Asked is-unwritable'.Learnt nothing
 is_unwritable_outcome κs a x y s t h p q = (fixed p q, refl)

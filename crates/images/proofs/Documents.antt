@@ -1,13 +1,13 @@
 -- A replica's documents: their entries and rows meet the rules exactly if they are a replica's. Assumes nothing.
 use mathlib.Core.Path.{◌≡◌, refl, sym, ap, ap₂, ◌∙◌, subst}
+use Rattle.std.specs.declared.cmp.Ordering.{Ordering}
 use mathlib.Core.Bool.{Bool, false, not}
 use mathlib.Core.List.{List, [], ◌∷◌, ◌++◌, map}
-use mathlib.Core.Option.{Option, none, some}
+use Rattle.std.specs.Prelude.{Option, None, Some}
 use Prim.Native.Nat.{ℕ, suc, ◌+◌, ◌*◌, ◌≤◌, max}
 use native.Mathlib.Omega.{arith}
 use lib.ListN.{length, take, drop, length-append, length-map, length-drop, take-append-drop}
 use lib.Seq.{take_at, drop_at, length-take-le}
-use Rattle.rules.specs.declared.Order.{Order}
 use Rattle.rules.specs.Faults.{bad_entries, not_above, largest, sum_rows, bad_rows, bad_links, in_each}
 use Rattle.rules.specs.Image.{node_in, deal, documents_in, total_length}
 use Rattle.rules.specs.Layout.{Entry, Row, row_size}
@@ -78,12 +78,12 @@ pub record IsDoc (d : Id × Document) : Type 0 where
 
 -- above the id before, where there is one
 abbrev pub AboveId : Option Id → Map Id Document → Type 0
-AboveId none ds = Unit {0}
-AboveId (some j) ds = Below order_bytes j ds
+AboveId None ds = Unit {0}
+AboveId (Some j) ds = Below order_bytes j ds
 
 not_above_lem : (before : Option Id) (d : Id × Document) (ds : Map Id Document) → AboveId before (d ∷ ds) → not_above before d.0 ≡ false
-not_above_lem none d ds b = refl
-not_above_lem (some j) d ds b = ap (λ (o : Order). not (is_less o)) b
+not_above_lem None d ds b = refl
+not_above_lem (Some j) d ds b = ap (λ (o : Ordering). not (is_less o)) b
 
 pub record EntriesHold (place : ℕ) (before : Option Id) (es : List Entry) : Type 0 where
   pub clear : AllFalse (bad_entries place before es)
@@ -95,7 +95,7 @@ pub entries_forth : (place : ℕ) (before : Option Id) (ds : Map Id Document) �
 unfolding entries_for entry_for bad_entries revisions_held largest_seq
 entries_forth place before [] r s b room most = record { clear = tt; fits = tt; small = tt }
 entries_forth place before (d ∷ ds) r s b room most =
-    go (entries_forth (place + row_size * length d.1.tree) (some d.0) ds r.1 s.1 s.0 (omega arith) (omega arith))
+    go (entries_forth (place + row_size * length d.1.tree) (Some d.0) ds r.1 s.1 s.0 (omega arith) (omega arith))
   where
     entry : IsEntry place d
     entry = record {
@@ -106,7 +106,7 @@ entries_forth place before (d ∷ ds) r s b room most =
       place = omega arith;
     }
 
-    go : EntriesHold (place + row_size * length d.1.tree) (some d.0) (entries_for (place + row_size * length d.1.tree) ds)
+    go : EntriesHold (place + row_size * length d.1.tree) (Some d.0) (entries_for (place + row_size * length d.1.tree) ds)
         → EntriesHold place before (entries_for place (d ∷ ds))
     go h = record {
       clear = (rules_entry place before (entry_for place d) (entry_for_rules place before d entry (not_above_lem before d ds b)), h.clear);
@@ -130,10 +130,10 @@ each_clear f [] h = tt
 each_clear f (d ∷ ds) h =
     each_append (λ b. b ≡ false) (f (map row_for d.1.tree)) (in_each f (map (λ e. map row_for e.1.tree) ds)) h.0 (each_clear f ds h.1)
 
-pub rows_clear : (ds : Map Id Document) → Each IsDoc ds → AllFalse (in_each (bad_rows none) (map (λ d. map row_for d.1.tree) ds))
+pub rows_clear : (ds : Map Id Document) → Each IsDoc ds → AllFalse (in_each (bad_rows None) (map (λ d. map row_for d.1.tree) ds))
 rows_clear ds r =
-    each_clear (bad_rows none) ds
-    (each_map IsDoc (λ d. AllFalse (bad_rows none (map row_for d.1.tree))) (λ d i. (tree_forth d.1.tree i.tree).0) ds r)
+    each_clear (bad_rows None) ds
+    (each_map IsDoc (λ d. AllFalse (bad_rows None (map row_for d.1.tree))) (λ d i. (tree_forth d.1.tree i.tree).0) ds r)
 
 pub links_clear : (ds : Map Id Document) → Each IsDoc ds → AllFalse (in_each bad_links (map (λ d. map row_for d.1.tree) ds))
 links_clear ds r =
@@ -173,8 +173,8 @@ none_left (w ∷ ws) e = absurd (omega arith)
 -- one entry with its rows, in front of what the later ones hold
 documents_step : (due : ℕ) (before : Option Id) (e : Entry) (es : List Entry) (ws : List Row) (ds : Map Id Document)
     → EntryFits e → EntryRules due before e → Each RowFits ws → e.rows ≤ length ws
-    → AllFalse (bad_rows none (take e.rows ws)) → AllFalse (bad_links (take e.rows ws))
-    → DocsHold (due + row_size * e.rows) (some e.id) es (drop e.rows ws) ds
+    → AllFalse (bad_rows None (take e.rows ws)) → AllFalse (bad_links (take e.rows ws))
+    → DocsHold (due + row_size * e.rows) (Some e.id) es (drop e.rows ws) ds
     → DocsHold due before (e ∷ es) ws ((e.id, record { seq = record { 0 = e.seq }; tree = map node_in (take e.rows ws) }) ∷ ds)
 unfolding entries_for rows_for
 documents_step due before e es ws ds f r g enough rows links h =
@@ -193,25 +193,25 @@ documents_step due before e es ws ds f r g enough rows links h =
     }
   where
     first : (b : Option Id) → not_above b e.id ≡ false → AboveId b ((e.id, record { seq = record { 0 = e.seq }; tree = map node_in (take e.rows ws) }) ∷ ds)
-    first none z = tt
-    first (some j) z = is_less_lem (order_bytes j e.id) z
+    first None z = tt
+    first (Some j) z = is_less_lem (order_bytes j e.id) z
 
 pub documents_back : (due : ℕ) (before : Option Id) (es : List Entry) (ws : List Row) → Each EntryFits es → Each RowFits ws
     → AllFalse (bad_entries due before es) → sum_rows es ≡ length ws
-    → AllFalse (in_each (bad_rows none) (deal es ws)) → AllFalse (in_each bad_links (deal es ws))
+    → AllFalse (in_each (bad_rows None) (deal es ws)) → AllFalse (in_each bad_links (deal es ws))
     → DocsHold due before es ws (documents_in node_in es (deal es ws))
 unfolding bad_entries sum_rows deal in_each documents_in entries_for rows_for
 documents_back due before [] ws f g bad sum rows links =
     record { entries = refl; rows = none_left ws sum; each = tt; ascending = tt; above = nothing before }
   where
     nothing : (b : Option Id) → AboveId b []
-    nothing none = tt
-    nothing (some j) = tt
+    nothing None = tt
+    nothing (Some j) = tt
 documents_back due before (e ∷ es) ws f g bad sum rows links =
     let own : List Row = take e.rows ws in
     let later : List Row = drop e.rows ws in
-    let a = each_split (λ b. b ≡ false) (bad_rows none own) (in_each (bad_rows none) (deal es later)) rows in
+    let a = each_split (λ b. b ≡ false) (bad_rows None own) (in_each (bad_rows None) (deal es later)) rows in
     let b = each_split (λ b. b ≡ false) (bad_links own) (in_each bad_links (deal es later)) links in
     let rest : sum_rows es ≡ length later = let l = length-drop e.rows ws in omega arith in
     documents_step due before e es ws (documents_in node_in es (deal es later)) f.0 (entry_rules due before e bad.0) g (omega arith) a.0 b.0
-    (documents_back (due + row_size * e.rows) (some e.id) es later f.1 (each_drop RowFits e.rows ws g) bad.1 rest a.1 b.1)
+    (documents_back (due + row_size * e.rows) (Some e.id) es later f.1 (each_drop RowFits e.rows ws g) bad.1 rest a.1 b.1)

@@ -2,7 +2,7 @@
 -- hold a replica whose image they are. Assumes nothing.
 use mathlib.Core.Path.{◌≡◌, refl, sym, ap, ap₂, ◌∙◌, subst}
 use mathlib.Core.List.{List, [], ◌∷◌, ◌++◌, map}
-use mathlib.Core.Option.{none}
+use Rattle.std.specs.Prelude.{None}
 use Prim.Native.Nat.{ℕ, ◌+◌, ◌*◌, ◌≤◌}
 use native.Mathlib.Omega.{arith}
 use lib.ListN.{length}
@@ -85,13 +85,13 @@ module _ (r : Replica) (i : IsReplica r) where
   unfolding document_of
   seqs_distinct = own_forth r.documents i.ascending λ k j d e p q m. (i.documents k d p).seq_own j e q m
 
-  hold : EntriesHold (bodies r.documents) none (entries_from r)
+  hold : EntriesHold (bodies r.documents) None (entries_from r)
   hold =
       let a = i.documents_at_most in
       let b = i.revisions_at_most in
       let c = i.seq_at_most in
       let e = i.seq_largest in
-      entries_forth (bodies r.documents) none r.documents docs_each i.ascending tt (omega arith) (omega arith)
+      entries_forth (bodies r.documents) None r.documents docs_each i.ascending tt (omega arith) (omega arith)
 
   fits : Fits (head_for r) (entries_from r) (rows_for r.documents)
   unfolding head_for
@@ -134,7 +134,7 @@ module _ (r : Replica) (i : IsReplica r) where
         seqs = seqs_forth (entries_for due ds) (subst (λ (l : List ℕ). Each (λ n. 1 ≤ n) l) (sym seqs) (each_onto (λ n. 1 ≤ n) seq_of ds seqs_least))
             (subst Distinct (sym seqs) seqs_distinct);
         largest = i.seq_largest ∙ sym (largest_entries_for due ds);
-        rows = subst (λ (l : List (List Row)). AllFalse (in_each (bad_rows none) l)) (sym (deal_rows due ds)) (rows_clear ds docs_each);
+        rows = subst (λ (l : List (List Row)). AllFalse (in_each (bad_rows None) l)) (sym (deal_rows due ds)) (rows_clear ds docs_each);
         links = subst (λ (l : List (List Row)). AllFalse (in_each bad_links l)) (sym (deal_rows due ds)) (links_clear ds docs_each);
       }
 
@@ -155,7 +155,7 @@ module _ (r : Replica) (i : IsReplica r) where
   pub bytes_image : Bytes (image r)
   bytes_image = subst Bytes (sym (image_fields r)) (bytes_image_with (head_for r) (entries_from r) (rows_for r.documents) fits)
 
-  pub image_faultless : first_that (faults (image r)) ≡ none
+  pub image_faultless : first_that (faults (image r)) ≡ None
   image_faultless = meets_faults (image r) (rw (length-image, head_of_lem, entries_of_lem, rows_of_lem) meets)
 
   pub image_read : replica_in (image r) ≡ r
@@ -170,18 +170,18 @@ module _ (r : Replica) (i : IsReplica r) where
 
 -- ---- bytes that meet every rule
 
-module _ (s : List ℕ) (p : Bytes s) (e : first_that (faults s) ≡ none) where
+module _ (s : List ℕ) (p : Bytes s) (e : first_that (faults s) ≡ None) where
   rules : Meets (length s) (head_of s) (entries_of s) (rows_of s)
   rules = faults_meets s e
 
   size : length s ≡ total_length (head_of s).documents (head_of s).revisions
   size = sym rules.given ∙ rules.total
 
-  held : DocsHold (head_size + entry_size * (head_of s).documents) none (entries_of s) (rows_of s) (replica_in s).documents
+  held : DocsHold (head_size + entry_size * (head_of s).documents) None (entries_of s) (rows_of s) (replica_in s).documents
   unfolding replica_in
   held =
       let f = image_fits s p size in
-      documents_back (head_size + entry_size * (head_of s).documents) none (entries_of s) (rows_of s) f.entries f.rows rules.entries (rules.sum ∙ sym f.revisions) rules.rows rules.links
+      documents_back (head_size + entry_size * (head_of s).documents) None (entries_of s) (rows_of s) f.entries f.rows rules.entries (rules.sum ∙ sym f.revisions) rules.rows rules.links
 
   documents_count : length (replica_in s).documents ≡ (head_of s).documents
   documents_count =

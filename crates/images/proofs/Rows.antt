@@ -4,7 +4,7 @@ use mathlib.Core.Path.{◌≡◌, refl, sym, ap, ◌∙◌, subst}
 use mathlib.Core.Bool.{Bool, true, false, not, ◌&&◌}
 use mathlib.Core.List.{List, [], ◌∷◌, ◌++◌}
 use mathlib.Core.Logic.{◌≢◌}
-use mathlib.Core.Option.{Option, none, some}
+use Rattle.std.specs.Prelude.{Option, None, Some}
 use Prim.Native.Nat.{ℕ, zero, suc, pred, ◌+◌, ◌≤◌, ◌<◌}
 use native.Mathlib.Omega.{arith}
 use lib.Dec.{eqb, ltb}
@@ -187,9 +187,9 @@ row_rules w e =
 -- what one known revision satisfies by itself
 pub record IsRow (v : Revision × Node) : Type 0 where
   pub rev : IsRevision v.0
-  pub parent : (p : Revision) → v.1.parent ≡ some p → IsRevision p
-  pub lower : (p : Revision) → v.1.parent ≡ some p → suc p.number.0 ≡ v.0.number.0
-  pub content : (c : Content) → v.1.content ≡ some c → IsContent c
+  pub parent : (p : Revision) → v.1.parent ≡ Some p → IsRevision p
+  pub lower : (p : Revision) → v.1.parent ≡ Some p → suc p.number.0 ≡ v.0.number.0
+  pub content : (c : Content) → v.1.content ≡ Some c → IsContent c
 
 -- the fields that it has
 unfoldable pub row_for : Revision × Node → Row
@@ -208,7 +208,7 @@ row_bytes_fields v = refl
 
 -- the parent that a flag, a number and a hash say
 unfoldable parent_from : ℕ → ℕ → Hash → Option Revision
-parent_from f n h = pick (eqb f 0) none (some (revision (pred n) h))
+parent_from f n h = pick (eqb f 0) None (Some (revision (pred n) h))
 
 flag_parent : (f n : ℕ) (h : Hash) → f ≤ 1 → flag_of (parent_from f n h) ≡ f
 unfolding parent_from
@@ -222,12 +222,12 @@ hash_parent zero n h l s z = ap (λ (k : ℕ). replicate k 0) (sym s) ∙ sym (z
 hash_parent (suc zero) n h l s z = refl
 hash_parent (suc (suc f)) n h l s z = absurd (omega arith)
 
-parent_from_lem : (f n : ℕ) (h : Hash) (p : Revision) → parent_from f n h ≡ some p → revision (pred n) h ≡ p
+parent_from_lem : (f n : ℕ) (h : Hash) (p : Revision) → parent_from f n h ≡ Some p → revision (pred n) h ≡ p
 unfolding parent_from
 parent_from_lem zero n h p e = absurd (none≢some e)
-parent_from_lem (suc f) n h p e = some_inj (ap (λ (b : Bool). pick b none (some (revision (pred n) h))) (sym (ne_eqb (suc f) 0 (λ x. omega arith))) ∙ e)
+parent_from_lem (suc f) n h p e = some_inj (ap (λ (b : Bool). pick b None (Some (revision (pred n) h))) (sym (ne_eqb (suc f) 0 (λ x. omega arith))) ∙ e)
 
-parent_flag : (f n : ℕ) (h : Hash) (p : Revision) → parent_from f n h ≡ some p → 1 ≤ f
+parent_flag : (f n : ℕ) (h : Hash) (p : Revision) → parent_from f n h ≡ Some p → 1 ≤ f
 unfolding parent_from
 parent_flag zero n h p e = absurd (none≢some e)
 parent_flag (suc f) n h p e = omega arith
@@ -244,7 +244,7 @@ label_content (suc zero) l h z = refl
 label_content (suc (suc zero)) l h z = sym (z λ e. omega arith)
 label_content (suc (suc (suc k))) l h z = absurd (omega arith)
 
-is_content : (k l : ℕ) (c : Content) → k ≤ 2 → l < labels → content_of_kind k l ≡ some c → IsContent c
+is_content : (k l : ℕ) (c : Content) → k ≤ 2 → l < labels → content_of_kind k l ≡ Some c → IsContent c
 is_content zero l c h m e = absurd (none≢some e)
 is_content (suc zero) l c h m e = subst IsContent (some_inj e) m
 is_content (suc (suc zero)) l c h m e = subst IsContent (some_inj e) tt
@@ -257,16 +257,16 @@ unfolding node_in row_for parent_of_row
 row_of_node v r = λ i. (v.0, record { parent = e i; content = content_back v.1.content i })
   where
     content_back : (c : Option Content) → content_of_kind (kind_of c) (label_of c) ≡ c
-    content_back none = refl
-    content_back (some (Live n)) = refl
-    content_back (some Deleted) = refl
+    content_back None = refl
+    content_back (Some (Live n)) = refl
+    content_back (Some Deleted) = refl
 
-    go : (p : Option Revision) → ((u : Revision) → p ≡ some u → suc u.number.0 ≡ v.0.number.0)
-        → pick (eqb (flag_of p) 0) none (some (revision (pred v.0.number.0) (parent_hash p))) ≡ p
-    go none f = refl
-    go (some u) f = let h = f u refl in let k : pred v.0.number.0 ≡ u.number.0 = omega arith in λ i. some (record { number = record { 0 = k i }; hash = u.hash })
+    go : (p : Option Revision) → ((u : Revision) → p ≡ Some u → suc u.number.0 ≡ v.0.number.0)
+        → pick (eqb (flag_of p) 0) None (Some (revision (pred v.0.number.0) (parent_hash p))) ≡ p
+    go None f = refl
+    go (Some u) f = let h = f u refl in let k : pred v.0.number.0 ≡ u.number.0 = omega arith in λ i. Some (record { number = record { 0 = k i }; hash = u.hash })
 
-    e : pick (eqb (flag_of v.1.parent) 0) none (some (revision (pred v.0.number.0) (parent_hash v.1.parent))) ≡ v.1.parent
+    e : pick (eqb (flag_of v.1.parent) 0) None (Some (revision (pred v.0.number.0) (parent_hash v.1.parent))) ≡ v.1.parent
     e = go v.1.parent r.lower
 
 pub node_of_row : (w : Row) → RowFits w → RowRules w → row_for (node_in w) ≡ w
@@ -286,7 +286,7 @@ node_is w f r =
     let n : ℕ = w.rev.number.0 in
     let most = f.number in
     let least = r.number in
-    let parent : (p : Revision) → parent_from w.flag n w.parent ≡ some p → IsRevision p × (suc p.number.0 ≡ n) =
+    let parent : (p : Revision) → parent_from w.flag n w.parent ≡ Some p → IsRevision p × (suc p.number.0 ≡ n) =
     λ p e.
     let one = parent_flag w.flag n w.parent p e in
     let top = r.flag in
@@ -322,26 +322,26 @@ fields_fit v r =
     }
   where
     kind : (c : Option Content) → kind_of c < 256
-    kind none = omega arith
-    kind (some (Live n)) = omega arith
-    kind (some Deleted) = omega arith
+    kind None = omega arith
+    kind (Some (Live n)) = omega arith
+    kind (Some Deleted) = omega arith
 
     flag : (p : Option Revision) → flag_of p < 256
-    flag none = omega arith
-    flag (some p) = omega arith
+    flag None = omega arith
+    flag (Some p) = omega arith
 
-    size : (p : Option Revision) → ((u : Revision) → p ≡ some u → IsRevision u) → length (parent_hash p) ≡ hash_size
-    size none h = refl
-    size (some u) h = (h u refl).size
+    size : (p : Option Revision) → ((u : Revision) → p ≡ Some u → IsRevision u) → length (parent_hash p) ≡ hash_size
+    size None h = refl
+    size (Some u) h = (h u refl).size
 
-    bytes : (p : Option Revision) → ((u : Revision) → p ≡ some u → IsRevision u) → Bytes (parent_hash p)
-    bytes none h = bytes_zeros hash_size
-    bytes (some u) h = (h u refl).bytes
+    bytes : (p : Option Revision) → ((u : Revision) → p ≡ Some u → IsRevision u) → Bytes (parent_hash p)
+    bytes None h = bytes_zeros hash_size
+    bytes (Some u) h = (h u refl).bytes
 
-    label : (c : Option Content) → ((d : Content) → c ≡ some d → IsContent d) → label_of c < labels
-    label none h = omega arith
-    label (some (Live n)) h = h (Live n) refl
-    label (some Deleted) h = omega arith
+    label : (c : Option Content) → ((d : Content) → c ≡ Some d → IsContent d) → label_of c < labels
+    label None h = omega arith
+    label (Some (Live n)) h = h (Live n) refl
+    label (Some Deleted) h = omega arith
 
 pub fields_rules : (v : Revision × Node) → IsRow v → RowRules (row_for v)
 unfolding row_for
@@ -356,24 +356,24 @@ fields_rules v r = record {
 }
   where
     kind : (c : Option Content) → kind_of c ≤ 2
-    kind none = omega arith
-    kind (some (Live n)) = omega arith
-    kind (some Deleted) = omega arith
+    kind None = omega arith
+    kind (Some (Live n)) = omega arith
+    kind (Some Deleted) = omega arith
 
     flag : (p : Option Revision) → flag_of p ≤ 1
-    flag none = omega arith
-    flag (some p) = omega arith
+    flag None = omega arith
+    flag (Some p) = omega arith
 
-    first : (p : Option Revision) → ((u : Revision) → p ≡ some u → IsRevision u)
-        → ((u : Revision) → p ≡ some u → suc u.number.0 ≡ v.0.number.0) → flag_of p ≡ 1 → v.0.number.0 ≡ 1 → ⊥
-    first none h k e o = omega arith
-    first (some u) h k e o = let l = (h u refl).least in let m = k u refl in omega arith
+    first : (p : Option Revision) → ((u : Revision) → p ≡ Some u → IsRevision u)
+        → ((u : Revision) → p ≡ Some u → suc u.number.0 ≡ v.0.number.0) → flag_of p ≡ 1 → v.0.number.0 ≡ 1 → ⊥
+    first None h k e o = omega arith
+    first (Some u) h k e o = let l = (h u refl).least in let m = k u refl in omega arith
 
     hash : (p : Option Revision) → flag_of p ≡ 0 → all_zero (parent_hash p) ≡ true
-    hash none e = all_zeros hash_size
-    hash (some u) e = absurd (omega arith)
+    hash None e = all_zeros hash_size
+    hash (Some u) e = absurd (omega arith)
 
     label : (c : Option Content) → (kind_of c ≡ 1 → ⊥) → label_of c ≡ 0
-    label none h = refl
-    label (some (Live n)) h = absurd (h refl)
-    label (some Deleted) h = refl
+    label None h = refl
+    label (Some (Live n)) h = absurd (h refl)
+    label (Some Deleted) h = refl

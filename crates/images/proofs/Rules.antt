@@ -2,7 +2,7 @@
 use mathlib.Core.Path.{◌≡◌, refl, sym, ap, ap₂, ◌∙◌}
 use mathlib.Core.Bool.{Bool, true, false, not}
 use mathlib.Core.List.{List, [], ◌∷◌, ◌++◌}
-use mathlib.Core.Option.{Option, none, some}
+use Rattle.std.specs.Prelude.{Option, None, Some}
 use Prim.Native.Nat.{ℕ, suc, ◌+◌, ◌*◌, ◌≤◌}
 use native.Mathlib.Omega.{arith}
 use lib.Dec.{eqb, ltb}
@@ -21,19 +21,19 @@ use Rattle.images.proofs.Tests.{true≢false, none5, all5, AllFalse}
 
 -- ---- the place of the first that is true
 
-pub true_none : (k : ℕ) (bs : List Bool) → first_true k bs ≡ none → AllFalse bs
+pub true_none : (k : ℕ) (bs : List Bool) → first_true k bs ≡ None → AllFalse bs
 unfolding first_true
 true_none k [] e = tt
 true_none k (b ∷ bs) e = go b refl (λ q. true_none (suc k) bs q)
   where
-    go : (c : Bool) → b ≡ c → (first_true (suc k) bs ≡ none → AllFalse bs) → AllFalse (b ∷ bs)
-    go true p ih = absurd (none≢some (sym e ∙ ap (λ (c : Bool). pick c (some k) (first_true (suc k) bs)) p))
-    go false p ih = (p, ih (sym (ap (λ (c : Bool). pick c (some k) (first_true (suc k) bs)) p) ∙ e))
+    go : (c : Bool) → b ≡ c → (first_true (suc k) bs ≡ None → AllFalse bs) → AllFalse (b ∷ bs)
+    go true p ih = absurd (none≢some (sym e ∙ ap (λ (c : Bool). pick c (Some k) (first_true (suc k) bs)) p))
+    go false p ih = (p, ih (sym (ap (λ (c : Bool). pick c (Some k) (first_true (suc k) bs)) p) ∙ e))
 
-pub none_true : (k : ℕ) (bs : List Bool) → AllFalse bs → first_true k bs ≡ none
+pub none_true : (k : ℕ) (bs : List Bool) → AllFalse bs → first_true k bs ≡ None
 unfolding first_true
 none_true k [] h = refl
-none_true k (b ∷ bs) h = ap (λ (c : Bool). pick c (some k) (first_true (suc k) bs)) h.0 ∙ none_true (suc k) bs h.1
+none_true k (b ∷ bs) h = ap (λ (c : Bool). pick c (Some k) (first_true (suc k) bs)) h.0 ∙ none_true (suc k) bs h.1
 
 -- p is the place of the first that is true, counted from k
 pub record IsPlace (k : ℕ) (bs : List Bool) (p : ℕ) : Type 0 where
@@ -43,17 +43,17 @@ pub record IsPlace (k : ℕ) (bs : List Bool) (p : ℕ) : Type 0 where
   pub earlier : AllFalse before
   pub place : k + length before ≡ p
 
-pub place_is : (k : ℕ) (bs : List Bool) (p : ℕ) → first_true k bs ≡ some p → IsPlace k bs p
+pub place_is : (k : ℕ) (bs : List Bool) (p : ℕ) → first_true k bs ≡ Some p → IsPlace k bs p
 unfolding first_true
 place_is k [] p e = absurd (none≢some e)
 place_is k (b ∷ bs) p e = go b refl (λ q. place_is (suc k) bs p q)
   where
-    go : (c : Bool) → b ≡ c → (first_true (suc k) bs ≡ some p → IsPlace (suc k) bs p) → IsPlace k (b ∷ bs) p
+    go : (c : Bool) → b ≡ c → (first_true (suc k) bs ≡ Some p → IsPlace (suc k) bs p) → IsPlace k (b ∷ bs) p
     go true q ih =
-        let r : k ≡ p = some_inj (sym (ap (λ (c : Bool). pick c (some k) (first_true (suc k) bs)) q) ∙ e) in
+        let r : k ≡ p = some_inj (sym (ap (λ (c : Bool). pick c (Some k) (first_true (suc k) bs)) q) ∙ e) in
         record { before = []; after = bs; split = ap {B = List Bool} (λ x. x ∷ bs) q; earlier = tt; place = omega arith }
     go false q ih =
-        let f = ih (sym (ap (λ (c : Bool). pick c (some k) (first_true (suc k) bs)) q) ∙ e) in
+        let f = ih (sym (ap (λ (c : Bool). pick c (Some k) (first_true (suc k) bs)) q) ∙ e) in
         record {
           before = b ∷ f.before;
           after = f.after;
@@ -64,21 +64,21 @@ place_is k (b ∷ bs) p e = go b refl (λ q. place_is (suc k) bs p q)
 
 -- ---- one fault
 
-at_none : (f : Fault) (o : Option ℕ) → (at f o).0 ≡ false → o ≡ none
-at_none f none e = refl
-at_none f (some p) e = absurd (true≢false e)
+at_none : (f : Fault) (o : Option ℕ) → (at f o).0 ≡ false → o ≡ None
+at_none f None e = refl
+at_none f (Some p) e = absurd (true≢false e)
 
-none_at : (f : Fault) (o : Option ℕ) → o ≡ none → (at f o).0 ≡ false
+none_at : (f : Fault) (o : Option ℕ) → o ≡ None → (at f o).0 ≡ false
 none_at f o e = ap (λ (x : Option ℕ). (at f x).0) e
 
 -- neither of two, the second a test
-else_none : (a : Option ℕ) (b : Bool) (p : ℕ) → or_else a (pick b none (some p)) ≡ none → (a ≡ none) × (b ≡ true)
-else_none none true p e = (refl, refl)
-else_none none false p e = absurd (none≢some (sym e))
-else_none (some x) b p e = absurd (none≢some (sym e))
+else_none : (a : Option ℕ) (b : Bool) (p : ℕ) → or_else a (pick b None (Some p)) ≡ None → (a ≡ None) × (b ≡ true)
+else_none None true p e = (refl, refl)
+else_none None false p e = absurd (none≢some (sym e))
+else_none (Some x) b p e = absurd (none≢some (sym e))
 
-none_else : (a : Option ℕ) (b : Bool) (p : ℕ) → a ≡ none → b ≡ true → or_else a (pick b none (some p)) ≡ none
-none_else a b p e q = ap₂ (λ (x : Option ℕ) (y : Bool). or_else x (pick y none (some p))) e q
+none_else : (a : Option ℕ) (b : Bool) (p : ℕ) → a ≡ None → b ≡ true → or_else a (pick b None (Some p)) ≡ None
+none_else a b p e q = ap₂ (λ (x : Option ℕ) (y : Bool). or_else x (pick y None (Some p))) e q
 
 -- ---- the rules, as one statement
 
@@ -91,15 +91,15 @@ pub record Meets (n : ℕ) (h : Head) (es : List Entry) (ws : List Row) : Type 0
   pub revisions : h.revisions ≤ revisions_most
   pub total : h.total ≡ total_length h.documents h.revisions
   pub given : h.total ≡ n
-  pub entries : AllFalse (bad_entries (head_size + entry_size * h.documents) none es)
+  pub entries : AllFalse (bad_entries (head_size + entry_size * h.documents) None es)
   pub sum : sum_rows es ≡ h.revisions
   pub seqs : AllFalse (bad_seqs [] es)
   pub largest : h.seq ≡ largest es
-  pub rows : AllFalse (in_each (bad_rows none) (deal es ws))
+  pub rows : AllFalse (in_each (bad_rows None) (deal es ws))
   pub links : AllFalse (in_each bad_links (deal es ws))
 
 module _ (s : List ℕ) where
-  pub faults_meets : first_that (faults s) ≡ none → Meets (length s) (head_of s) (entries_of s) (rows_of s)
+  pub faults_meets : first_that (faults s) ≡ None → Meets (length s) (head_of s) (entries_of s) (rows_of s)
   unfolding faults bad_head bad_contents bad_sequence
   faults_meets e =
       let h : Head = head_of s in
@@ -109,7 +109,7 @@ module _ (s : List ℕ) where
       none5 (not (eqb h.zero 0)) (ltb documents_most h.documents) (ltb revisions_most h.revisions)
       (not (eqb h.total (total_length h.documents h.revisions))) (not (eqb h.total (length s))) f.1.1.0 in
       let contents =
-      else_none (first_true 0 (bad_entries (head_size + entry_size * h.documents) none es)) (eqb (sum_rows es) h.revisions) h.documents
+      else_none (first_true 0 (bad_entries (head_size + entry_size * h.documents) None es)) (eqb (sum_rows es) h.revisions) h.documents
       (at_none BadContents (bad_contents s) f.1.1.1.0) in
       let sequence =
       else_none (first_true 0 (bad_seqs [] es)) (eqb h.seq (largest es)) h.documents
@@ -122,15 +122,15 @@ module _ (s : List ℕ) where
         revisions = ltb-false revisions_most h.revisions head.2;
         total = eqb-true h.total (total_length h.documents h.revisions) (not-false (eqb h.total (total_length h.documents h.revisions)) head.3);
         given = eqb-true h.total (length s) (not-false (eqb h.total (length s)) head.4);
-        entries = true_none 0 (bad_entries (head_size + entry_size * h.documents) none es) contents.0;
+        entries = true_none 0 (bad_entries (head_size + entry_size * h.documents) None es) contents.0;
         sum = eqb-true (sum_rows es) h.revisions contents.1;
         seqs = true_none 0 (bad_seqs [] es) sequence.0;
         largest = eqb-true h.seq (largest es) sequence.1;
-        rows = true_none 0 (in_each (bad_rows none) (deal es (rows_of s))) (at_none BadRow (first_true 0 (in_each (bad_rows none) (deal es (rows_of s)))) f.1.1.1.1.1.0);
+        rows = true_none 0 (in_each (bad_rows None) (deal es (rows_of s))) (at_none BadRow (first_true 0 (in_each (bad_rows None) (deal es (rows_of s)))) f.1.1.1.1.1.0);
         links = true_none 0 (in_each bad_links (deal es (rows_of s))) (at_none BadParent (first_true 0 (in_each bad_links (deal es (rows_of s)))) f.1.1.1.1.1.1.0);
       }
 
-  pub meets_faults : Meets (length s) (head_of s) (entries_of s) (rows_of s) → first_that (faults s) ≡ none
+  pub meets_faults : Meets (length s) (head_of s) (entries_of s) (rows_of s) → first_that (faults s) ≡ None
   unfolding faults bad_head bad_contents bad_sequence
   meets_faults m =
       let h : Head = head_of s in
@@ -150,14 +150,14 @@ module _ (s : List ℕ) where
                 ),
             (
               none_at BadContents (bad_contents s)
-                  (none_else (first_true 0 (bad_entries (head_size + entry_size * h.documents) none es)) (eqb (sum_rows es) h.revisions) h.documents
-                  (none_true 0 (bad_entries (head_size + entry_size * h.documents) none es) m.entries) (eq-eqb (sum_rows es) h.revisions m.sum)),
+                  (none_else (first_true 0 (bad_entries (head_size + entry_size * h.documents) None es)) (eqb (sum_rows es) h.revisions) h.documents
+                  (none_true 0 (bad_entries (head_size + entry_size * h.documents) None es) m.entries) (eq-eqb (sum_rows es) h.revisions m.sum)),
               (
                 none_at BadSequence (bad_sequence s)
                     (none_else (first_true 0 (bad_seqs [] es)) (eqb h.seq (largest es)) h.documents
                     (none_true 0 (bad_seqs [] es) m.seqs) (eq-eqb h.seq (largest es) m.largest)),
                 (
-                  none_at BadRow (first_true 0 (in_each (bad_rows none) (deal es (rows_of s)))) (none_true 0 (in_each (bad_rows none) (deal es (rows_of s))) m.rows),
+                  none_at BadRow (first_true 0 (in_each (bad_rows None) (deal es (rows_of s)))) (none_true 0 (in_each (bad_rows None) (deal es (rows_of s))) m.rows),
                   (none_at BadParent (first_true 0 (in_each bad_links (deal es (rows_of s)))) (none_true 0 (in_each bad_links (deal es (rows_of s))) m.links), tt),
                 ),
               ),

@@ -1,14 +1,14 @@
 -- The own sequences: they meet the rule on them exactly if each is above 0 and no two documents have the same. Assumes nothing.
 use mathlib.Core.Path.{◌≡◌, refl, sym, ap, ◌∙◌, subst}
+use Rattle.std.specs.declared.cmp.Ordering.TheVariants.{Less}
 use mathlib.Core.Bool.{Bool, false, ◌||◌}
 use mathlib.Core.List.{List, [], ◌∷◌, map}
 use mathlib.Core.Logic.{◌≢◌}
-use mathlib.Core.Option.{some}
+use Rattle.std.specs.Prelude.{Some}
 use Prim.Native.Nat.{ℕ, ◌≤◌}
 use native.Mathlib.Omega.{arith}
 use lib.Dec.{eqb}
 use borrow.Author.Tests.{eqb-false, ne_eqb}
-use Rattle.rules.specs.declared.Order.TheVariants.{Less}
 use Rattle.rules.specs.declared.Seq.{Seq}
 use Rattle.rules.specs.Choice.{any}
 use Rattle.rules.specs.Faults.{bad_seqs}
@@ -97,7 +97,7 @@ seqs_back es h = let r = tests_back [] (map (λ (e : Entry). e.seq) es) (subst A
 
 -- no other document has this sequence, by `find`
 abbrev pub OwnSeqs : Map Id Document → Type 0
-OwnSeqs ds = (i j : Id) (d e : Document) → find order_bytes i ds ≡ some d → find order_bytes j ds ≡ some e → e.seq ≡ d.seq → j ≡ i
+OwnSeqs ds = (i j : Id) (d e : Document) → find order_bytes i ds ≡ Some d → find order_bytes j ds ≡ Some e → e.seq ≡ d.seq → j ≡ i
 
 pub own_forth : (ds : Map Id Document) → Ascending order_bytes ds → OwnSeqs ds → Distinct (map seq_of ds)
 own_forth [] s own = tt
@@ -106,7 +106,7 @@ own_forth (x ∷ xs) s own = (
   own_forth xs s.1 (λ i j d e p q. own i j d e (find_tail bytes_order i d x xs s p) (find_tail bytes_order j e x xs s q)),
 )
   where
-    other : (k : Id) (a : Document) → find order_bytes k xs ≡ some a → seq_of x ≡ a.seq.0 → ⊥
+    other : (k : Id) (a : Document) → find order_bytes k xs ≡ Some a → seq_of x ≡ a.seq.0 → ⊥
     other k a e q =
         let same : a.seq ≡ x.1.seq = λ i. record { 0 = sym q i } in
         let z : k ≡ x.0 = own x.0 k x.1 a (find_head bytes_order x xs) (find_tail bytes_order k a x xs s e) same in
@@ -118,10 +118,10 @@ own_back [] u i j d e p q m = absurd (none≢some p)
 own_back (x ∷ xs) u i j d e p q m =
     go (place bytes_order i d x xs p) (place bytes_order j e x xs q) (λ a b. own_back xs u.1 i j d e a b m)
   where
-    other : (k : Id) (a : Document) → find order_bytes k xs ≡ some a → seq_of x ≢ a.seq.0
+    other : (k : Id) (a : Document) → find order_bytes k xs ≡ Some a → seq_of x ≢ a.seq.0
     other = each_find bytes_order (λ y. seq_of x ≢ seq_of y) xs (each_from (λ n. seq_of x ≢ n) seq_of xs u.0)
 
-    go : Place bytes_order i d x xs → Place bytes_order j e x xs → (find order_bytes i xs ≡ some d → find order_bytes j xs ≡ some e → j ≡ i) → j ≡ i
+    go : Place bytes_order i d x xs → Place bytes_order j e x xs → (find order_bytes i xs ≡ Some d → find order_bytes j xs ≡ Some e → j ≡ i) → j ≡ i
     go (Place.here a b) (Place.here a' b') f = a' ∙ sym a
     go (Place.here a b) (Place.there t) f = absurd (other j e t (ap (λ (y : Document). y.seq.0) b ∙ ap (λ (y : Seq). y.0) (sym m)))
     go (Place.there t) (Place.here a b) f = absurd (other i d t (ap (λ (y : Document). y.seq.0) b ∙ ap (λ (y : Seq). y.0) m))

@@ -1,15 +1,18 @@
 -- Laws of characters and strings. Assumes nothing.
-use mathlib.Core.Path.{◌≡◌, refl}
-use mathlib.Core.List.{List, ◌∷◌}
+use mathlib.Core.Path.{◌≡◌, refl, sym, subst}
+use native.Mathlib.Numerals.{add-one}
+use lib.Seq.{drop-cons}
+use Rattle.std.specs.Prelude.{All}
+use Rattle.std.proofs.lemmas.List.Elements.{All-get_or}
+use Rattle.std.specs.Prelude.{Option, None, Some}
+use mathlib.Core.List.{List, [], ◌∷◌}
 use mathlib.Core.Logic.{◌⊎◌, inl, inr}
 use mathlib.Core.Bool.{Bool, true, false}
-use Prim.Native.Nat.{ℕ, ◌+◌, ◌≤◌, ◌<◌}
+use Prim.Native.Nat.{ℕ, zero, suc, ◌+◌, ◌≤◌, ◌<◌}
 use native.Mathlib.Omega.{arith}
 use lib.ListN.{length, get_or, drop}
-use Rattle.json_text.specs.Grammar.{Rule, byte, range, ◌then◌, ◌or◌, many, none, more, tail, utf8_two, utf8_three, utf8_four, utf8, unescaped, simple, hex, char, string}
-use Rattle.json_text.specs.Skips.{NoText, Skips, Not, Here, OnlyAt, Exact}
-use Rattle.json_text.specs.declared.Skip.{Skip}
-use Rattle.json_text.specs.declared.Skip.TheVariants.{To, Wrong}
+use Rattle.json_text.specs.Grammar.{Rule, byte, range, ◌then◌, ◌or◌, many, none, more, white, tail, utf8_two, utf8_three, utf8_four, utf8, unescaped, simple, hex, char, string}
+use Rattle.json_text.specs.Skips.{NoText, Skips, Not, Here, OnlyAt, Exact, Whether, in_turn}
 use Rattle.json_text.proofs.WsLaws.{stands, at_byte, byte_at, lt_or_ge}
 use Rattle.json_text.proofs.StepLaws.{Leads}
 use Rattle.json_text.proofs.LiteralLaws.{byte_next}
@@ -17,15 +20,15 @@ use Rattle.json_text.proofs.LiteralLaws.{byte_next}
 pub leads_trans : (P Q R : Rule) (s : List ℕ) (at i j : ℕ) → Leads P Q s at i → Leads Q R s i j → Leads P R s at j
 leads_trans P Q R s at i j f g = record { from = omega arith; to = λ r p z. g.to r (f.to r p z) z; back = λ r p. f.back r (g.back r p) }
 
-pub exact_leads : (P Q : Rule) (s : List ℕ) (at j : ℕ) → Leads P Q s at j → (x : Skip) → Exact Q s j x → Exact P s at x
+pub exact_leads : (P Q : Rule) (s : List ℕ) (at j : ℕ) → Leads P Q s at j → (x : Option ℕ) → Exact Q s j x → Exact P s at x
 unfolding Not
-exact_leads P Q s at j g (To e) h = record { from = omega arith; within = h.within; is = g.back _ h.is; only = λ r p. h.only r (g.to r p tt) }
-exact_leads P Q s at j g Wrong h = λ r p. h r (g.to r p tt)
+exact_leads P Q s at j g (Some e) h = record { from = omega arith; within = h.within; is = g.back _ h.is; only = λ r p. h.only r (g.to r p tt) }
+exact_leads P Q s at j g None h = λ r p. h r (g.to r p tt)
 
-pub exact_skips : (P : Rule) (s : List ℕ) (at : ℕ) (x : Skip) → Exact P s at x → Skips P s at x
+pub exact_skips : (P : Rule) (s : List ℕ) (at : ℕ) (x : Option ℕ) → Exact P s at x → Skips P s at x
 unfolding Not NoText
-exact_skips P s at (To e) h = record { from = omega arith; within = h.within; is = h.is; only = λ r p z. h.only r p }
-exact_skips P s at Wrong h = λ r p z. h r p
+exact_skips P s at (Some e) h = record { from = omega arith; within = h.within; is = h.is; only = λ r p z. h.only r p }
+exact_skips P s at None h = λ r p z. h r p
 
 module _ (P Q : Rule) (s : List ℕ) (at : ℕ) where
   pub or_left : Not Q (drop at s) → Leads (P or Q) P s at at
@@ -88,6 +91,65 @@ one_or P Q O N = record { take = λ a b p. go a b p }
     go : (a b : List ℕ) → (P or Q) a b → (c : ℕ) × ((0 < c) × (a ≡ c ∷ b))
     go a b (inl p) = O.take a b p
     go a b (inr p) = N.take a b p
+
+-- a rule whose text is one byte, of which Q holds
+pub record Says (P : Rule) (Q : ℕ → Type 0) : Type 0 where
+  pub some : Q 0 → ⊥
+  pub take : (a b : List ℕ) → P a b → (c : ℕ) × (Q c × (a ≡ c ∷ b))
+  pub give : (c : ℕ) (b : List ℕ) → Q c → P (c ∷ b) b
+
+pub says_byte : (c : ℕ) → 0 < c → Says (byte c) (λ d. d ≡ c)
+unfolding byte
+says_byte c h = record { some = λ e. omega arith; take = λ a b e. (c, (refl, e)); give = λ d b e. rw e refl }
+
+pub says_range : (lo hi : ℕ) → 0 < lo → Says (range lo hi) (λ d. (lo ≤ d) × (d ≤ hi))
+unfolding range
+says_range lo hi h = record { some = λ e. omega arith; take = λ a b p. (p.0, ((p.1.0, p.1.1.0), p.1.1.1)); give = λ d b e. (d, (e.0, (e.1, refl))) }
+
+pub says_or : (P R : Rule) (Q S : ℕ → Type 0) → Says P Q → Says R S → Says (P or R) (λ d. Q d ⊎ S d)
+unfolding ◌or◌
+says_or P R Q S m n = record { some = λ e. none e; take = λ a b p. take a b p; give = λ d b e. give d b e }
+  where
+    none : Q 0 ⊎ S 0 → ⊥
+    none (inl q) = m.some q
+    none (inr q) = n.some q
+
+    take : (a b : List ℕ) → (P or R) a b → (c : ℕ) × ((Q c ⊎ S c) × (a ≡ c ∷ b))
+    take a b (inl p) = let t = m.take a b p in (t.0, (inl t.1.0, t.1.1))
+    take a b (inr p) = let t = n.take a b p in (t.0, (inr t.1.0, t.1.1))
+
+    give : (d : ℕ) (b : List ℕ) → Q d ⊎ S d → (P or R) (d ∷ b) b
+    give d b (inl q) = inl (m.give d b q)
+    give d b (inr q) = inr (n.give d b q)
+
+either : (x y : ℕ) → 0 < x → 0 < y → Says (byte x or byte y) (λ d. (d ≡ x) ⊎ (d ≡ y))
+either x y h k = says_or _ _ _ _ (says_byte x h) (says_byte y k)
+
+pub says_white : Says white (λ d. (d ≡ 32) ⊎ ((d ≡ 9) ⊎ ((d ≡ 10) ⊎ (d ≡ 13))))
+unfolding white
+says_white = says_or _ _ _ _ (says_byte 32 (omega arith)) (says_or _ _ _ _ (says_byte 9 (omega arith)) (either 10 13 (omega arith) (omega arith)))
+
+pub says_simple : Says simple (λ d. ((d ≡ 34) ⊎ (d ≡ 92)) ⊎ (((d ≡ 47) ⊎ (d ≡ 98)) ⊎ (((d ≡ 102) ⊎ (d ≡ 110)) ⊎ ((d ≡ 114) ⊎ (d ≡ 116)))))
+unfolding simple
+says_simple =
+    says_or _ _ _ _ (either 34 92 (omega arith) (omega arith))
+    (says_or _ _ _ _ (either 47 98 (omega arith) (omega arith))
+    (says_or _ _ _ _ (either 102 110 (omega arith) (omega arith)) (either 114 116 (omega arith) (omega arith))))
+
+pub says_hex : Says hex (λ d. ((48 ≤ d) × (d ≤ 57)) ⊎ (((65 ≤ d) × (d ≤ 70)) ⊎ ((97 ≤ d) × (d ≤ 102))))
+unfolding hex
+says_hex = says_or _ _ _ _ (says_range 48 57 (omega arith)) (says_or _ _ _ _ (says_range 65 70 (omega arith)) (says_range 97 102 (omega arith)))
+
+-- by a test of the byte that stands there
+pub here_test : (P : Rule) (Q : ℕ → Type 0) → Says P Q → (s : List ℕ) (at : ℕ) (x : Bool) → Whether (Q (get_or s at 0)) x → Here P s at x
+here_test P Q m s at true q =
+    let h : 0 < get_or s at 0 = above (get_or s at 0) q in
+    (stands s at (get_or s at 0) refl h, rw (at_byte s at (get_or s at 0) refl h) (m.give _ _ q))
+  where
+    above : (c : ℕ) → Q c → 0 < c
+    above zero q = absurd (m.some q)
+    above (suc c) q = omega arith
+here_test P Q m s at false n = unfold Not in λ b p. let t = m.take (drop at s) b p in n (rw (byte_at s at t.0 b t.1.1) t.1.0)
 
 pub one_hex : OneByte hex
 unfolding hex
@@ -238,9 +300,9 @@ module _ (s : List ℕ) (at : ℕ) where
   char_plain l h q b = go (lt_or_ge (get_or s at 0) 34) (lt_or_ge (get_or s at 0) 92)
     where
       go : (get_or s at 0 < 34) ⊎ (34 ≤ get_or s at 0) → (get_or s at 0 < 92) ⊎ (92 ≤ get_or s at 0) → OnlyAt char s at (at + 1)
-      go (inl x) y = exact_leads _ _ s at at (char_1 l (omega arith)) (To (at + 1)) (one 32 33 (omega arith) (omega arith) (omega arith))
-      go (inr x) (inl y) = exact_leads _ _ s at at (char_2 (omega arith) (omega arith)) (To (at + 1)) (one 35 91 (omega arith) (omega arith) (omega arith))
-      go (inr x) (inr y) = exact_leads _ _ s at at (char_3 (omega arith) (omega arith)) (To (at + 1)) (one 93 127 (omega arith) (omega arith) (omega arith))
+      go (inl x) y = exact_leads _ _ s at at (char_1 l (omega arith)) (Some (at + 1)) (one 32 33 (omega arith) (omega arith) (omega arith))
+      go (inr x) (inl y) = exact_leads _ _ s at at (char_2 (omega arith) (omega arith)) (Some (at + 1)) (one 35 91 (omega arith) (omega arith) (omega arith))
+      go (inr x) (inr y) = exact_leads _ _ s at at (char_3 (omega arith) (omega arith)) (Some (at + 1)) (one 93 127 (omega arith) (omega arith) (omega arith))
 
   byte_yes : (c : ℕ) → 0 < c → get_or s at 0 ≡ c → byte c (drop at s) (drop (at + 1) s)
   unfolding byte
@@ -324,40 +386,54 @@ module _ (s : List ℕ) (at : ℕ) (back : get_or s at 0 ≡ 92) where
   char_simple n x h q =
       let y = rw q at h in
       let e : at + 1 + 1 ≡ at + 2 = omega arith in
-      exact_leads _ _ s at (at + 1) (char_one n) (To (at + 2)) (rw e at (exact_one simple one_simple s (at + 1) y.0 y.1))
+      exact_leads _ _ s at (at + 1) (char_one n) (Some (at + 2)) (rw e at (exact_one simple one_simple s (at + 1) y.0 y.1))
 
   pub char_no_escape : (get_or s (at + 1) 0 ≡ 117 → ⊥) → (x : Bool) → Here simple s (at + 1) x → x ≡ false → Not char (drop at s)
-  char_no_escape n x h q = exact_leads char simple s at (at + 1) (char_one n) Wrong (rw q at h)
+  char_no_escape n x h q = exact_leads char simple s at (at + 1) (char_one n) None (rw q at h)
 
 -- sequences of bytes, one by one
-pub here_leads : (P Q : Rule) → OneByte P → (s : List ℕ) (at j : ℕ) (x : Bool) → Here P s at x → x ≡ true → at + 1 ≡ j → Leads (P then Q) Q s at j
-here_leads P Q O s at j x h q e = let y = rw q at h in rw e at (leads_one P Q O s at y.1)
+pub exact_then : (P Q : Rule) → OneByte P → (s : List ℕ) (at j : ℕ) → at + 1 ≡ j → (x : Option ℕ)
+    → (at < length s) × P (drop at s) (drop (at + 1) s) → Exact Q s j x → Exact (P then Q) s at x
+exact_then P Q O s at j e x h q = exact_leads (P then Q) Q s at j (rw e at (leads_one P Q O s at h.1)) x q
 
-pub here_exact : (P : Rule) → OneByte P → (s : List ℕ) (at j : ℕ) (x : Bool) → Here P s at x → x ≡ true → at + 1 ≡ j → OnlyAt P s at j
-here_exact P O s at j x h q e = let y = rw q at h in rw e at (exact_one P O s at y.0 y.1)
+pub here_exact : (P : Rule) → OneByte P → (s : List ℕ) (at j : ℕ) → at + 1 ≡ j → (at < length s) × P (drop at s) (drop (at + 1) s) → OnlyAt P s at j
+here_exact P O s at j e h = rw e at (exact_one P O s at h.0 h.1)
 
-pub here_not : (P : Rule) (s : List ℕ) (at : ℕ) (x : Bool) → Here P s at x → x ≡ false → Not P (drop at s)
-here_not P s at x h q = rw q at h
-
-pub here_in : (P : Rule) (s : List ℕ) (at : ℕ) (x : Bool) → Here P s at x → x ≡ true → at < length s
-here_in P s at x h q = let y = rw q at h in y.0
-
-pub exact_to : (P : Rule) (s : List ℕ) (at : ℕ) (x : Skip) (e : ℕ) → Exact P s at x → x ≡ To e → OnlyAt P s at e
+pub exact_to : (P : Rule) (s : List ℕ) (at : ℕ) (x : Option ℕ) (e : ℕ) → Exact P s at x → x ≡ Some e → OnlyAt P s at e
 exact_to P s at x e h q = rw q at h
 
-pub exact_wrong : (P : Rule) (s : List ℕ) (at : ℕ) (x : Skip) → Exact P s at x → x ≡ Wrong → Not P (drop at s)
-exact_wrong P s at x h q = rw q at h
+-- a byte of each range in turn
+module _ (s : List ℕ) (j : ℕ) (r : ℕ × ℕ) (rs : List (ℕ × ℕ)) where
+  pub turn_next : 0 < r.0 → (j < length s) × range r.0 r.1 (drop j s) (drop (j + 1) s) → Leads (in_turn (r ∷ rs)) (in_turn rs) s j (j + 1)
+  turn_next h y = go rs
+    where
+      go : (rs : List (ℕ × ℕ)) → Leads (in_turn (r ∷ rs)) (in_turn rs) s j (j + 1)
+      go [] = record {
+        from = omega arith;
+        to = λ b p z. sym (one_next (range r.0 r.1) (one_range r.0 r.1 h) s j b p);
+        back = λ b e. rw e at y.1;
+      }
+      go (q ∷ qs) = leads_one (range r.0 r.1) (in_turn (q ∷ qs)) (one_range r.0 r.1 h) s j y.1
 
--- an alternative that stands here
-pub here_or : (P Q : Rule) (s : List ℕ) (at : ℕ) (x : Bool) → Here P s at x → x ≡ true → (at < length s) × (P or Q) (drop at s) (drop (at + 1) s)
-unfolding ◌or◌
-here_or P Q s at x h q = let y = rw q at h in (y.0, inl y.1)
+  pub turn_wrong : Not (range r.0 r.1) (drop j s) → Not (in_turn (r ∷ rs)) (drop j s)
+  turn_wrong n = go rs
+    where
+      go : (rs : List (ℕ × ℕ)) → Not (in_turn (r ∷ rs)) (drop j s)
+      go [] = n
+      go (q ∷ qs) = not_then (range r.0 r.1) (in_turn (q ∷ qs)) s j n
 
-pub here_or_2 : (P Q : Rule) (s : List ℕ) (at : ℕ) → (at < length s) × Q (drop at s) (drop (at + 1) s) → (at < length s) × (P or Q) (drop at s) (drop (at + 1) s)
-unfolding ◌or◌
-here_or_2 P Q s at h = (h.0, inr h.1)
+module _ (rs : List (ℕ × ℕ)) (i : ℕ) (h : i < length rs) (s : List ℕ) (at j : ℕ) (g : Leads (in_turn rs) (in_turn (drop i rs)) s at j) where
+  here : drop i rs ≡ get_or rs i (0, 0) ∷ drop (i + 1) rs
+  here = rw add-one (drop-cons rs i (0, 0) h)
 
-pub here_last : (P Q : Rule) (s : List ℕ) (at : ℕ) → Not P (drop at s) → (x : Bool) → Here Q s at x → Here (P or Q) s at x
-unfolding ◌or◌
-here_last P Q s at n true h = (h.0, inr h.1)
-here_last P Q s at n false h = not_or P Q s at n h
+  pub turns_next : All (λ r. 0 < r.0) rs → (let r = get_or rs i (0, 0) in (j < length s) × range r.0 r.1 (drop j s) (drop (j + 1) s))
+      → Leads (in_turn rs) (in_turn (drop (i + 1) rs)) s at (j + 1)
+  turns_next a y =
+      leads_trans (in_turn rs) (in_turn (drop i rs)) (in_turn (drop (i + 1) rs)) s at j (j + 1) g
+      (subst (λ (x : List (ℕ × ℕ)). Leads (in_turn x) (in_turn (drop (i + 1) rs)) s j (j + 1)) (sym here)
+      (turn_next s j (get_or rs i (0, 0)) (drop (i + 1) rs) (All-get_or (λ r. 0 < r.0) rs i (0, 0) h a) y))
+
+  pub turns_wrong : (let r = get_or rs i (0, 0) in Not (range r.0 r.1) (drop j s)) → Not (in_turn rs) (drop at s)
+  turns_wrong n =
+      exact_leads (in_turn rs) (in_turn (drop i rs)) s at j g None
+      (subst (λ (x : List (ℕ × ℕ)). Not (in_turn x) (drop j s)) (sym here) (turn_wrong s j (get_or rs i (0, 0)) (drop (i + 1) rs) n))

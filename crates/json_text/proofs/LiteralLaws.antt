@@ -1,13 +1,19 @@
 -- Laws of the literal names. Assumes nothing.
-use mathlib.Core.Path.{◌≡◌, sym, ◌∙◌}
-use mathlib.Core.List.{List, ◌∷◌}
+use mathlib.Core.Path.{◌≡◌, refl, sym, ap, ◌∙◌}
+use lib.Dec.{eqb}
+use Rattle.std.specs.List.{starts_with}
+use lib.Pointwise.{bytes_decides}
+use Rattle.std.proofs.lemmas.List.{drop-drop, take-append-drop}
+use Rattle.std.proofs.Math.Seq.{take-append_seam, drop-append_seam}
+use Rattle.std.specs.Prelude.{Option}
+use mathlib.Core.List.{List, [], ◌∷◌, ◌++◌}
+use mathlib.Core.Bool.{true, false, true≢false}
 use mathlib.Core.Logic.{◌⊎◌, inl, inr}
-use Prim.Native.Nat.{ℕ, ◌+◌, ◌<◌}
+use Prim.Native.Nat.{ℕ, ◌+◌, ◌-◌, ◌≤◌, ◌<◌}
 use native.Mathlib.Omega.{arith}
-use lib.ListN.{length, get_or, drop}
+use lib.ListN.{length, get_or, take, drop, length-append, length-drop}
 use Rattle.json_text.specs.Grammar.{Rule, byte, ◌then◌, ◌or◌, literal}
-use Rattle.json_text.specs.Skips.{EndsAt, NoText, Skips}
-use Rattle.json_text.specs.declared.Skip.{Skip}
+use Rattle.json_text.specs.Skips.{EndsAt, NoText, Skips, spelling}
 use Rattle.json_text.proofs.WsLaws.{stands, at_byte, byte_at, tail_eq}
 use Rattle.json_text.proofs.ScalarLaws.{skips_same}
 use Rattle.json_text.proofs.StepLaws.{skips_runs}
@@ -18,63 +24,52 @@ byte_next s i c a e h = tail_eq (sym e ∙ at_byte s i c (byte_at s i c a e) h)
 unfoldable pub Word : ℕ → ℕ → ℕ → ℕ → Rule
 Word a b c d = byte a then byte b then byte c then byte d
 
-pub record Spelt (s : List ℕ) (at a b c d : ℕ) : Type 0 where
-  pub 0th : get_or s at 0 ≡ a
-  pub 1st : get_or s (at + 1) 0 ≡ b
-  pub 2nd : get_or s (at + 2) 0 ≡ c
-  pub 3rd : get_or s (at + 3) 0 ≡ d
+-- a text that begins with these bytes
+begins : (w p : List ℕ) → starts_with eqb p w ≡ true → p ≡ w ++ drop (length w) p
+begins w p e =
+    let t : w ≡ take (length w) p = (bytes_decides w (take (length w) p)).0 e in
+    sym (take-append-drop (length w) p) ∙ ap (λ (z : List ℕ). z ++ drop (length w) p) (sym t)
 
-module _ (s : List ℕ) (at a b c d : ℕ) (pa : 0 < a) (pb : 0 < b) (pc : 0 < c) (pd : 0 < d) where
-  word_is : Spelt s at a b c d → Word a b c d (drop at s) (drop (at + 4) s)
-  unfolding Word ◌then◌ byte
-  word_is h =
-      let e1 : at + 1 + 1 ≡ at + 2 = omega arith in
-      let e2 : at + 2 + 1 ≡ at + 3 = omega arith in
-      let e3 : at + 3 + 1 ≡ at + 4 = omega arith in (
-        drop (at + 1) s,
-        (
-          at_byte s at a h.0th pa,
-          (
-            drop (at + 2) s,
-            (
-              rw e1 at (at_byte s (at + 1) b h.1st pb),
-              (drop (at + 3) s, (rw e2 at (at_byte s (at + 2) c h.2nd pc), rw e3 at (at_byte s (at + 3) d h.3rd pd))),
-            ),
-          ),
-        ),
-      )
+begins_with : (w r : List ℕ) → starts_with eqb (w ++ r) w ≡ true
+begins_with w r = (bytes_decides w (take (length w) (w ++ r))).1 (sym (take-append_seam w r))
 
-  word_spelt : (r : List ℕ) → Word a b c d (drop at s) r → Spelt s at a b c d × (r ≡ drop (at + 4) s)
-  unfolding Word ◌then◌ byte
-  word_spelt r (x, (e, (y, (f, (z, (g, h)))))) =
-      let e1 : at + 1 + 1 ≡ at + 2 = omega arith in
-      let e2 : at + 2 + 1 ≡ at + 3 = omega arith in
-      let e3 : at + 3 + 1 ≡ at + 4 = omega arith in
-      let xs : x ≡ drop (at + 1) s = byte_next s at a x e pa in
-      let f' : drop (at + 1) s ≡ b ∷ y = sym xs ∙ f in
-      let ys : y ≡ drop (at + 2) s = rw e1 at (byte_next s (at + 1) b y f' pb) in
-      let g' : drop (at + 2) s ≡ c ∷ z = sym ys ∙ g in
-      let zs : z ≡ drop (at + 3) s = rw e2 at (byte_next s (at + 2) c z g' pc) in
-      let h' : drop (at + 3) s ≡ d ∷ r = sym zs ∙ h in (
-        record { 0th = byte_at s at a x e; 1st = byte_at s (at + 1) b y f'; 2nd = byte_at s (at + 2) c z g'; 3rd = byte_at s (at + 3) d r h' },
-        rw e3 at (byte_next s (at + 3) d r h' pd),
-      )
+spells : (w r : List ℕ) → spelling w (w ++ r) r
+unfolding byte ◌then◌
+spells [] r = refl
+spells (c ∷ []) r = refl
+spells (c ∷ d ∷ w) r = (_, (refl, spells (d ∷ w) r))
 
-  pub word_ends : Spelt s at a b c d → EndsAt (Word a b c d) s at (at + 4)
-  word_ends h =
-      let k : at + 3 < length s = stands s (at + 3) d h.3rd pd in
-      record { from = omega arith; within = omega arith; is = word_is h; only = λ r p z. (word_spelt r p).1 }
+spelt : (w a r : List ℕ) → spelling w a r → a ≡ w ++ r
+unfolding byte ◌then◌
+spelt [] a r e = e
+spelt (c ∷ []) a r e = e
+spelt (c ∷ d ∷ w) a r (b, (e, p)) = rw (spelt (d ∷ w) b r p) at e
 
-  pub word_wrong : (Spelt s at a b c d → ⊥) → NoText (Word a b c d) s at
+module _ (s : List ℕ) (at : ℕ) (w p : List ℕ) (here : p ≡ drop at s) where
+  pub word_ends : at ≤ length s → starts_with eqb p w ≡ true → EndsAt (spelling w) s at (at + length w)
+  word_ends h e =
+      let b : drop at s ≡ w ++ drop (length w) (drop at s) = begins w (drop at s) (rw here at e) in
+      let z : drop at s ≡ w ++ drop (at + length w) s = rw drop-drop at b in
+      let l : length s - at ≡ length w + (length s - (at + length w)) = simp (length-append, length-drop) at (ap length z) in
+      record {
+        from = omega arith;
+        within = omega arith;
+        is = rw z (spells w (drop (at + length w) s));
+        only = λ r q f. sym (drop-append_seam w r) ∙ (ap (drop (length w)) (sym (spelt w (drop at s) r q) ∙ z) ∙ drop-append_seam w (drop (at + length w) s));
+      }
+
+  pub word_wrong : starts_with eqb p w ≡ false → NoText (spelling w) s at
   unfolding NoText
-  word_wrong f r p z = f (word_spelt r p).0
+  word_wrong e r q z =
+      let k : p ≡ w ++ r = here ∙ spelt w (drop at s) r q in
+      true≢false (sym (begins_with w r) ∙ (ap (λ (x : List ℕ). starts_with eqb x w) (sym k) ∙ e))
 
 module _ (s : List ℕ) (at : ℕ) where
   lit_byte : (c : ℕ) (r : List ℕ) (Q : Rule) → (byte c then Q) (drop at s) r → get_or s at 0 ≡ c
   unfolding ◌then◌ byte
   lit_byte c r Q (x, (e, q)) = byte_at s at c x e
 
-  pub lit_false : get_or s at 0 ≡ 102 → (x : Skip) → Skips (Word 97 108 115 101) s (at + 1) x → Skips literal s at x
+  pub lit_false : get_or s at 0 ≡ 102 → (x : Option ℕ) → Skips (Word 97 108 115 101) s (at + 1) x → Skips literal s at x
   lit_false e x h = skips_runs literal (Word 97 108 115 101) s at (at + 1) (record { from = omega arith; to = λ r p z. go r p; back = λ r p. back r p }) x h
     where
       go : (r : List ℕ) → literal (drop at s) r → Word 97 108 115 101 (drop (at + 1) s) r
@@ -91,7 +86,7 @@ module _ (s : List ℕ) (at : ℕ) where
       back : (r : List ℕ) → Word 97 108 115 101 (drop (at + 1) s) r → literal (drop at s) r
       back r p = unfold Word literal ◌or◌ ◌then◌ byte in inl (drop (at + 1) s, (at_byte s at 102 e (omega arith), p))
 
-  pub lit_null : get_or s at 0 ≡ 110 → (x : Skip) → Skips (Word 110 117 108 108) s at x → Skips literal s at x
+  pub lit_null : get_or s at 0 ≡ 110 → (x : Option ℕ) → Skips (Word 110 117 108 108) s at x → Skips literal s at x
   unfolding literal ◌or◌ Word
   lit_null e x h = skips_same (Word 110 117 108 108) literal s at (λ r p. inr (inl p)) (λ r p. go r p) x h
     where
@@ -100,7 +95,7 @@ module _ (s : List ℕ) (at : ℕ) where
       go r (inr (inl q)) = q
       go r (inr (inr q)) = let k = lit_byte 116 r _ q in absurd (omega arith)
 
-  pub lit_true : (get_or s at 0 ≡ 102 → ⊥) → (get_or s at 0 ≡ 110 → ⊥) → (x : Skip) → Skips (Word 116 114 117 101) s at x → Skips literal s at x
+  pub lit_true : (get_or s at 0 ≡ 102 → ⊥) → (get_or s at 0 ≡ 110 → ⊥) → (x : Option ℕ) → Skips (Word 116 114 117 101) s at x → Skips literal s at x
   unfolding literal ◌or◌ Word
   lit_true f n x h = skips_same (Word 116 114 117 101) literal s at (λ r p. inr (inr p)) (λ r p. go r p) x h
     where

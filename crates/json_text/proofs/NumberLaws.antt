@@ -1,5 +1,6 @@
 -- Laws of numbers: where a number ends is said by what follows it. Assumes nothing.
 use mathlib.Core.Path.{◌≡◌, refl, sym, ap, ◌∙◌}
+use Rattle.std.specs.Prelude.{Option, None, Some}
 use mathlib.Core.List.{List, ◌∷◌}
 use mathlib.Core.Logic.{◌⊎◌, inl, inr}
 use mathlib.Core.Bool.{Bool, true, false}
@@ -8,8 +9,6 @@ use native.Mathlib.Omega.{arith}
 use lib.ListN.{length, get_or, drop}
 use Rattle.json_text.specs.Grammar.{Rule, byte, range, option, ◌then◌, ◌or◌, many, more, some, digit, int, frac, exp, number}
 use Rattle.json_text.specs.Skips.{Ends, Follow, EndsAt, NoText, Skips, Not, Here, RunTo, SomeTo, SkipsSome}
-use Rattle.json_text.specs.declared.Skip.{Skip}
-use Rattle.json_text.specs.declared.Skip.TheVariants.{To, Wrong}
 use Rattle.json_text.proofs.WsLaws.{stands, at_byte, byte_at, head_eq, tail_eq, tail, run_only}
 use Rattle.json_text.proofs.StepLaws.{Runs}
 use Rattle.json_text.proofs.ScalarLaws.{First, first_at, int_first}
@@ -103,10 +102,10 @@ frac_nodigit a r (b, (inl e, p)) h = rw e (end_nodigit b r p h)
 frac_nodigit a r (b, (inr (z, (e, q)), p)) h = first_nodigit a z 46 e (λ l k. omega arith)
 
 -- digits at the end of a number
-pub some_skips : (s : List ℕ) (at : ℕ) (x : Skip) → SkipsSome digit s at x → Skips (some digit) s at x
+pub some_skips : (s : List ℕ) (at : ℕ) (x : Option ℕ) → SkipsSome digit s at x → Skips (some digit) s at x
 unfolding NoText
-some_skips s at (To e) h = record { from = h.from; within = h.within; is = h.is; only = λ r p z. some_only (drop at s) r (drop e s) p (ends_nodigit r z) h.is h.all }
-some_skips s at Wrong h = λ r p z. go r p
+some_skips s at (Some e) h = record { from = h.from; within = h.within; is = h.is; only = λ r p z. some_only (drop at s) r (drop e s) p (ends_nodigit r z) h.is h.all }
+some_skips s at None h = λ r p z. go r p
   where
     go : (r : List ℕ) → some digit (drop at s) r → ⊥
     go r p = unfold some ◌then◌ Not in h p.0 p.1.0
@@ -266,10 +265,10 @@ module _ (s : List ℕ) (at : ℕ) where
       go r (b, (inr k, p)) = absurd (n (byte_at s at 45 b k))
 
 -- an answer by its case
-pub some_to : (s : List ℕ) (at : ℕ) (x : Skip) (e : ℕ) → SkipsSome digit s at x → x ≡ To e → SomeTo digit s at e
+pub some_to : (s : List ℕ) (at : ℕ) (x : Option ℕ) (e : ℕ) → SkipsSome digit s at x → x ≡ Some e → SomeTo digit s at e
 some_to s at x e h q = rw q at h
 
-pub some_wrong : (s : List ℕ) (at : ℕ) (x : Skip) → SkipsSome digit s at x → x ≡ Wrong → Not digit (drop at s)
+pub some_wrong : (s : List ℕ) (at : ℕ) (x : Option ℕ) → SkipsSome digit s at x → x ≡ None → Not digit (drop at s)
 some_wrong s at x h q = rw q at h
 
 pub here_yes : (P : Rule) (s : List ℕ) (at : ℕ) (x : Bool) → Here P s at x → x ≡ true → (at < length s) × P (drop at s) (drop (at + 1) s)

@@ -1,7 +1,8 @@
 -- Laws of places: where a text stands is one place. Assumes nothing.
 use mathlib.Core.Path.{◌≡◌, refl, ap, ◌∙◌}
+use Rattle.std.specs.Prelude.{Option, None, Some}
 use mathlib.Core.List.{List, [], ◌∷◌}
-use mathlib.Core.Logic.{inl, inr}
+use mathlib.Core.Logic.{◌⊎◌, inl, inr}
 use mathlib.Core.Bool.{Bool, true, false}
 use Prim.Native.Nat.{ℕ, suc, ◌≤◌, ◌<◌}
 use native.Mathlib.Omega.{arith}
@@ -9,8 +10,6 @@ use lib.ListN.{length, get_or, drop, length-drop, drop_of_length-le}
 use lib.Seq.{drop-cons}
 use Rattle.json_text.specs.Grammar.{Rule, byte, ◌or◌, white, ws}
 use Rattle.json_text.specs.Skips.{WsTo, Here, Follow, Ends, EndsAt, NoText, Skips, WholeAt, Placed, Not, OnlyAt, Exact, Whether}
-use Rattle.json_text.specs.declared.Skip.{Skip}
-use Rattle.json_text.specs.declared.Skip.TheVariants.{To, Wrong}
 use Rattle.json_text.proofs.WsLaws.{at_byte, ws_only, white_ends}
 
 -- two places with the same bytes after them are one
@@ -29,19 +28,19 @@ whole_place P s at d e p q =
     same_place s d e p.text.within q.text.within (q.text.only _ p.text.is p.ends)
 
 -- what is promised of an answer leaves one
-pub exact_one_answer : (P : Rule) (s : List ℕ) (at : ℕ) (x y : Skip) → Exact P s at x → Exact P s at y → x ≡ y
+pub exact_one_answer : (P : Rule) (s : List ℕ) (at : ℕ) (x y : Option ℕ) → Exact P s at x → Exact P s at y → x ≡ y
 unfolding Not
-exact_one_answer P s at (To d) (To e) p q = ap To (only_place P s at d e p q)
-exact_one_answer P s at (To d) Wrong p q = absurd (q _ p.is)
-exact_one_answer P s at Wrong (To e) p q = absurd (p _ q.is)
-exact_one_answer P s at Wrong Wrong p q = refl
+exact_one_answer P s at (Some d) (Some e) p q = ap Some (only_place P s at d e p q)
+exact_one_answer P s at (Some d) None p q = absurd (q _ p.is)
+exact_one_answer P s at None (Some e) p q = absurd (p _ q.is)
+exact_one_answer P s at None None p q = refl
 
-pub placed_one_answer : (P : Rule) (s : List ℕ) (at : ℕ) (x y : Skip) → Placed P s at x → Placed P s at y → x ≡ y
+pub placed_one_answer : (P : Rule) (s : List ℕ) (at : ℕ) (x y : Option ℕ) → Placed P s at x → Placed P s at y → x ≡ y
 unfolding NoText
-placed_one_answer P s at (To d) (To e) p q = ap To (whole_place P s at d e p q)
-placed_one_answer P s at (To d) Wrong p q = absurd (q _ p.text.is p.ends)
-placed_one_answer P s at Wrong (To e) p q = absurd (p _ q.text.is q.ends)
-placed_one_answer P s at Wrong Wrong p q = refl
+placed_one_answer P s at (Some d) (Some e) p q = ap Some (whole_place P s at d e p q)
+placed_one_answer P s at (Some d) None p q = absurd (q _ p.text.is p.ends)
+placed_one_answer P s at None (Some e) p q = absurd (p _ q.text.is q.ends)
+placed_one_answer P s at None None p q = refl
 
 pub whether_one_answer : (P : Type 0) (x y : Bool) → Whether P x → Whether P y → x ≡ y
 whether_one_answer P true true p q = refl
@@ -50,21 +49,21 @@ whether_one_answer P false true p q = absurd (p q)
 whether_one_answer P false false p q = refl
 
 -- an answer and what follows it
-pub placed_skips : (P : Rule) (s : List ℕ) (at : ℕ) (x : Skip) → Placed P s at x → Skips P s at x
-placed_skips P s at (To e) p = p.text
-placed_skips P s at Wrong p = p
+pub placed_skips : (P : Rule) (s : List ℕ) (at : ℕ) (x : Option ℕ) → Placed P s at x → Skips P s at x
+placed_skips P s at (Some e) p = p.text
+placed_skips P s at None p = p
 
-pub placed_yes : (P : Rule) (s : List ℕ) (at e : ℕ) (x : Skip) (b : Bool) → Skips P s at x → x ≡ To e → Whether (Ends (drop e s)) b → b ≡ true → WholeAt P s at e
+pub placed_yes : (P : Rule) (s : List ℕ) (at e : ℕ) (x : Option ℕ) (b : Bool) → Skips P s at x → x ≡ Some e → Whether (Ends (drop e s)) b → b ≡ true → WholeAt P s at e
 placed_yes P s at e x b h q w k = record { text = rw q at h; ends = rw k at w }
 
-pub placed_no : (P : Rule) (s : List ℕ) (at e : ℕ) (x : Skip) (b : Bool) → Skips P s at x → x ≡ To e → Whether (Ends (drop e s)) b → b ≡ false → NoText P s at
+pub placed_no : (P : Rule) (s : List ℕ) (at e : ℕ) (x : Option ℕ) (b : Bool) → Skips P s at x → x ≡ Some e → Whether (Ends (drop e s)) b → b ≡ false → NoText P s at
 unfolding NoText
 placed_no P s at e x b h q w k r p z =
     let t : EndsAt P s at e = rw q at h in
     let f : Ends (drop e s) → ⊥ = rw k at w in
     f (rw (t.only r p z) at z)
 
-pub placed_wrong : (P : Rule) (s : List ℕ) (at : ℕ) (x : Skip) → Skips P s at x → x ≡ Wrong → NoText P s at
+pub placed_wrong : (P : Rule) (s : List ℕ) (at : ℕ) (x : Option ℕ) → Skips P s at x → x ≡ None → NoText P s at
 placed_wrong P s at x h q = rw q at h
 
 -- whether a value can end here
@@ -73,9 +72,16 @@ unfolding Ends
 ends_past s i h = let e : drop i s ≡ [] = drop_of_length-le s h in rw e tt
 
 module _ (s : List ℕ) (i : ℕ) where
-  pub ends_byte : (c : ℕ) → get_or s i 0 ≡ c → 0 < c → Follow c → Ends (drop i s)
+  ends_byte : (c : ℕ) → get_or s i 0 ≡ c → 0 < c → Follow c → Ends (drop i s)
   unfolding Ends
   ends_byte c e h f = rw (at_byte s i c e h) f
+
+  pub ends_any : (get_or s i 0 ≡ 44) ⊎ ((get_or s i 0 ≡ 125) ⊎ ((get_or s i 0 ≡ 93) ⊎ (get_or s i 0 ≡ 58))) → Ends (drop i s)
+  unfolding Follow
+  ends_any (inl e) = ends_byte 44 e (omega arith) (inr (inr (inr (inr (inl refl)))))
+  ends_any (inr (inl e)) = ends_byte 125 e (omega arith) (inr (inr (inr (inr (inr (inr (inl refl)))))))
+  ends_any (inr (inr (inl e))) = ends_byte 93 e (omega arith) (inr (inr (inr (inr (inr (inl refl))))))
+  ends_any (inr (inr (inr e))) = ends_byte 58 e (omega arith) (inr (inr (inr (inr (inr (inr (inr refl)))))))
 
   -- the byte here, where a value can end
   ends_follow : i < length s → Ends (drop i s) → Follow (get_or s i 0)

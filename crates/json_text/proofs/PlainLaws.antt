@@ -1,5 +1,6 @@
 -- Laws of plain bytes, of which most strings are made. Assumes nothing.
 use mathlib.Core.Path.{◌≡◌, refl}
+use Rattle.std.specs.Prelude.{Option, Some}
 use mathlib.Core.List.{List}
 use mathlib.Core.Logic.{◌⊎◌, inl, inr}
 use mathlib.Core.Bool.{Bool, true, false, not, ◌&&◌}
@@ -10,11 +11,9 @@ use borrow.Author.Tests.{leb-true, leb-false, eqb-true, eqb-false}
 use lib.ListN.{length, get_or}
 use Rattle.json_text.specs.Grammar.{byte, ◌then◌, many, char, string}
 use Rattle.json_text.specs.Skips.{Exact, OnlyAt, PlainByte, PlainTo, IfSo, Whether}
-use Rattle.json_text.specs.declared.Skip.{Skip}
-use Rattle.json_text.specs.declared.Skip.TheVariants.{To}
 use Rattle.json_text.proofs.WsLaws.{stands, lt_or_ge}
 use Rattle.json_text.proofs.StepLaws.{Leads}
-use Rattle.json_text.proofs.CharLaws.{leads_trans, leads_here, char_plain, string_more, exact_to}
+use Rattle.json_text.proofs.CharLaws.{leads_trans, leads_here, char_plain, string_more}
 
 -- ---- a byte
 
@@ -105,7 +104,6 @@ plain_string s at i e g p =
     leads_trans _ _ _ s at i e g (plain_leads s i (e - i) e n p.plain)
 
 -- a character and plain bytes passed over
-pub string_step : (s : List ℕ) (at i e j : ℕ) (x : Skip) → Leads string (many char then byte 34) s at i → (get_or s i 0 ≡ 34 → ⊥)
-    → Exact char s i x → x ≡ To e → PlainTo s e j → Leads string (many char then byte 34) s at j
-string_step s at i e j x g f h q p =
-    plain_string s at e j (leads_trans _ _ _ s at i e g (string_more s i e f (exact_to char s i x e h q))) p
+pub string_step : (s : List ℕ) (at i e j : ℕ) → Leads string (many char then byte 34) s at i → (get_or s i 0 ≡ 34 → ⊥)
+    → OnlyAt char s i e → PlainTo s e j → Leads string (many char then byte 34) s at j
+string_step s at i e j g f h p = plain_string s at e j (leads_trans _ _ _ s at i e g (string_more s i e f h)) p

@@ -1,5 +1,6 @@
 -- Laws of strings, numbers and literal names. Assumes nothing.
 use mathlib.Core.Path.{◌≡◌, ◌∙◌}
+use Rattle.std.specs.Prelude.{Option, None, Some}
 use mathlib.Core.List.{List, ◌∷◌}
 use mathlib.Core.Logic.{inl, inr}
 use Prim.Native.Nat.{ℕ, ◌≤◌, ◌<◌}
@@ -7,8 +8,6 @@ use native.Mathlib.Omega.{arith}
 use lib.ListN.{get_or, drop}
 use Rattle.json_text.specs.Grammar.{Rule, byte, range, option, ◌then◌, ◌or◌, scalar, string, number, int, literal}
 use Rattle.json_text.specs.Skips.{NoText, Skips}
-use Rattle.json_text.specs.declared.Skip.{Skip}
-use Rattle.json_text.specs.declared.Skip.TheVariants.{To, Wrong}
 use Rattle.json_text.proofs.WsLaws.{byte_at}
 use Rattle.json_text.proofs.ListLaws.{Dark}
 
@@ -103,13 +102,13 @@ string_starts a b p = let f = string_first a b p in record { first = f.first; af
 
 -- two rules that are the same here have the same answer
 pub skips_same : (P Q : Rule) (s : List ℕ) (at : ℕ) → ((r : List ℕ) → P (drop at s) r → Q (drop at s) r)
-    → ((r : List ℕ) → Q (drop at s) r → P (drop at s) r) → (x : Skip) → Skips P s at x → Skips Q s at x
+    → ((r : List ℕ) → Q (drop at s) r → P (drop at s) r) → (x : Option ℕ) → Skips P s at x → Skips Q s at x
 unfolding NoText
-skips_same P Q s at f g (To e) h = record { from = h.from; within = h.within; is = f _ h.is; only = λ r q z. h.only r (g r q) z }
-skips_same P Q s at f g Wrong h = λ r q z. h r (g r q) z
+skips_same P Q s at f g (Some e) h = record { from = h.from; within = h.within; is = f _ h.is; only = λ r q z. h.only r (g r q) z }
+skips_same P Q s at f g None h = λ r q z. h r (g r q) z
 
 module _ (s : List ℕ) (at : ℕ) where
-  pub scalar_string : get_or s at 0 ≡ 34 → (x : Skip) → Skips string s at x → Skips scalar s at x
+  pub scalar_string : get_or s at 0 ≡ 34 → (x : Option ℕ) → Skips string s at x → Skips scalar s at x
   unfolding scalar ◌or◌
   scalar_string e x h = skips_same string scalar s at (λ r p. inr (inr p)) (λ r p. go r p) x h
     where
@@ -118,7 +117,7 @@ module _ (s : List ℕ) (at : ℕ) where
       go r (inr (inl p)) = let f = first_at 45 57 s at (number_first _ r p) in absurd (omega arith)
       go r (inr (inr p)) = p
 
-  pub scalar_literal : 97 ≤ get_or s at 0 → (x : Skip) → Skips literal s at x → Skips scalar s at x
+  pub scalar_literal : 97 ≤ get_or s at 0 → (x : Option ℕ) → Skips literal s at x → Skips scalar s at x
   unfolding scalar ◌or◌
   scalar_literal e x h = skips_same literal scalar s at (λ r p. inl p) (λ r p. go r p) x h
     where
@@ -127,7 +126,7 @@ module _ (s : List ℕ) (at : ℕ) where
       go r (inr (inl p)) = let f = first_at 45 57 s at (number_first _ r p) in absurd (omega arith)
       go r (inr (inr p)) = let f = first_at 34 34 s at (string_first _ r p) in absurd (omega arith)
 
-  pub scalar_number : (get_or s at 0 ≡ 34 → ⊥) → get_or s at 0 < 97 → (x : Skip) → Skips number s at x → Skips scalar s at x
+  pub scalar_number : (get_or s at 0 ≡ 34 → ⊥) → get_or s at 0 < 97 → (x : Option ℕ) → Skips number s at x → Skips scalar s at x
   unfolding scalar ◌or◌
   scalar_number n e x h = skips_same number scalar s at (λ r p. inr (inl p)) (λ r p. go r p) x h
     where

@@ -1,13 +1,12 @@
 -- What a function that passes over a text keeps: what a rule is where it began is what another is where it stands.
 -- Assumes nothing.
 use mathlib.Core.List.{List}
+use Rattle.std.specs.Prelude.{Option, None, Some}
 use Prim.Native.Nat.{ℕ, ◌≤◌, ◌<◌}
 use native.Mathlib.Omega.{arith}
 use lib.ListN.{length, drop}
 use Rattle.json_text.specs.Grammar.{Rule}
 use Rattle.json_text.specs.Skips.{Ends, NoText, Skips}
-use Rattle.json_text.specs.declared.Skip.{Skip}
-use Rattle.json_text.specs.declared.Skip.TheVariants.{To, Wrong}
 
 -- what P is at `at` is what Q is at j, of the texts after which stands what C admits
 pub record Steps (C : List ℕ → Type 0) (P Q : Rule) (s : List ℕ) (at j : ℕ) : Type 0 where
@@ -32,18 +31,18 @@ pub record Goes (P Q : Rule) (s : List ℕ) (at i : ℕ) : Type 0 where
 -- the answer there is the answer here
 skips_steps :
     (C : List ℕ → Type 0) → ((r : List ℕ) → Ends r → C r) → (P Q : Rule) (s : List ℕ) (at j : ℕ)
-    → Steps C P Q s at j → (x : Skip) → Skips Q s j x → Skips P s at x
+    → Steps C P Q s at j → (x : Option ℕ) → Skips Q s j x → Skips P s at x
 unfolding NoText
-skips_steps C f P Q s at j g (To e) h = record {
+skips_steps C f P Q s at j g (Some e) h = record {
   from = omega (arith, g.from, h.from);
   within = h.within;
   is = g.back _ h.is;
   only = λ r p z. h.only r (g.to r p (f r z)) z;
 }
-skips_steps C f P Q s at j g Wrong h = λ r p z. h r (g.to r p (f r z)) z
+skips_steps C f P Q s at j g None h = λ r p z. h r (g.to r p (f r z)) z
 
-pub skips_runs : (P Q : Rule) (s : List ℕ) (at j : ℕ) → Runs P Q s at j → (x : Skip) → Skips Q s j x → Skips P s at x
+pub skips_runs : (P Q : Rule) (s : List ℕ) (at j : ℕ) → Runs P Q s at j → (x : Option ℕ) → Skips Q s j x → Skips P s at x
 skips_runs P Q s at j g x h = skips_steps Ends (λ r z. z) P Q s at j g x h
 
-pub skips_goes : (P Q : Rule) (s : List ℕ) (at j : ℕ) → Goes P Q s at j → (x : Skip) → Skips Q s j x → Skips P s at x
+pub skips_goes : (P Q : Rule) (s : List ℕ) (at j : ℕ) → Goes P Q s at j → (x : Option ℕ) → Skips Q s j x → Skips P s at x
 skips_goes P Q s at j g x h = skips_steps (λ r. Unit {0}) (λ r z. tt) P Q s at j g.leads x h

@@ -1,8 +1,7 @@
 -- What a skipper answers.
 use Rattle.std.specs.Prelude.{◌≡◌, List, [], ◌∷◌, ◌⊎◌, Bool, true, false, ℕ, ◌+◌, ◌≤◌, ◌<◌, length, get_or, drop}
-use Rattle.json_text.specs.Grammar.{Rule, ws, white, many, some}
-use Rattle.json_text.specs.declared.Skip.{Skip}
-use Rattle.json_text.specs.declared.Skip.TheVariants.{To, Wrong}
+use Rattle.std.specs.Prelude.{Option, None, Some}
+use Rattle.json_text.specs.Grammar.{Rule, byte, range, ◌then◌, ws, white, many, some}
 
 -- ---- bytes
 
@@ -38,9 +37,9 @@ RunTo P s at e = UpTo (many P) P s at e
 abbrev pub SomeTo : Rule → List ℕ → ℕ → ℕ → Type 0
 SomeTo P s at e = UpTo (some P) P s at e
 
-abbrev pub SkipsSome : Rule → List ℕ → ℕ → Skip → Type 0
-SkipsSome P s at (To e) = SomeTo P s at e
-SkipsSome P s at Wrong = Not P (drop at s)
+abbrev pub SkipsSome : Rule → List ℕ → ℕ → Option ℕ → Type 0
+SkipsSome P s at (Some e) = SomeTo P s at e
+SkipsSome P s at None = Not P (drop at s)
 
 -- ---- values
 
@@ -64,18 +63,30 @@ pub record EndsAt (P : Rule) (s : List ℕ) (at e : ℕ) : Type 0 where
 unfoldable pub NoText : Rule → List ℕ → ℕ → Type 0
 NoText P s at = (r : List ℕ) → P (drop at s) r → Ends r → ⊥
 
-abbrev pub Skips : Rule → List ℕ → ℕ → Skip → Type 0
-Skips P s at (To e) = EndsAt P s at e
-Skips P s at Wrong = NoText P s at
+abbrev pub Skips : Rule → List ℕ → ℕ → Option ℕ → Type 0
+Skips P s at (Some e) = EndsAt P s at e
+Skips P s at None = NoText P s at
 
 -- a text of P stands at `at` and ends at e, and what stands there can follow a value
 pub record WholeAt (P : Rule) (s : List ℕ) (at e : ℕ) : Type 0 where
   pub text : EndsAt P s at e
   pub ends : Ends (drop e s)
 
-abbrev pub Placed : Rule → List ℕ → ℕ → Skip → Type 0
-Placed P s at (To e) = WholeAt P s at e
-Placed P s at Wrong = NoText P s at
+abbrev pub Placed : Rule → List ℕ → ℕ → Option ℕ → Type 0
+Placed P s at (Some e) = WholeAt P s at e
+Placed P s at None = NoText P s at
+
+-- a text that is these bytes
+abbrev pub spelling : List ℕ → Rule
+spelling [] a b = a ≡ b
+spelling (c ∷ []) a b = byte c a b
+spelling (c ∷ d ∷ w) a b = (byte c then spelling (d ∷ w)) a b
+
+-- a byte of each range in turn
+abbrev pub in_turn : List (ℕ × ℕ) → Rule
+in_turn [] a b = a ≡ b
+in_turn (r ∷ []) a b = range r.0 r.1 a b
+in_turn (r ∷ q ∷ rs) a b = (range r.0 r.1 then in_turn (q ∷ rs)) a b
 
 -- ---- strings
 
@@ -86,9 +97,9 @@ pub record OnlyAt (P : Rule) (s : List ℕ) (at e : ℕ) : Type 0 where
   pub is : P (drop at s) (drop e s)
   pub only : (r : List ℕ) → P (drop at s) r → r ≡ drop e s
 
-abbrev pub Exact : Rule → List ℕ → ℕ → Skip → Type 0
-Exact P s at (To e) = OnlyAt P s at e
-Exact P s at Wrong = Not P (drop at s)
+abbrev pub Exact : Rule → List ℕ → ℕ → Option ℕ → Type 0
+Exact P s at (Some e) = OnlyAt P s at e
+Exact P s at None = Not P (drop at s)
 
 -- a byte that is a character of a string by itself: ASCII, no control, quotation mark or backslash
 pub record PlainByte (c : ℕ) : Type 0 where

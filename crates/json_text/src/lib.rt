@@ -3,19 +3,15 @@
 // token stands there. It uses the crate rules in its theorems alone, and knows nothing of documents.
 #![tactic(auto)]
 
-ghost use Rattle.std.specs.Prelude.{◌≡◌, ◌+◌, ◌<◌, ◌≤◌, length, get_or, drop, ◌&&◌};
-ghost use Rattle.json_text.specs.Grammar.{byte, range, tail, utf8, utf8_three, utf8_four, simple, hex, char, ◌then◌, ◌or◌, option, digit, int, frac, exp, number, literal, string, scalar, white};
-ghost use Rattle.json_text.specs.Skips.{WsTo, Ends, Skips, Placed, Here, RunTo, SkipsSome, Exact, PlainByte, PlainTo, IfSo, Whether};
+ghost use Rattle.std.specs.Prelude.{◌≡◌, ◌+◌, ◌<◌, ◌≤◌, length, get_or, drop, All};
+ghost use Rattle.json_text.specs.Grammar.{byte, range, utf8, utf8_three, utf8_four, simple, hex, char, ◌then◌, ◌or◌, option, digit, int, frac, exp, number, literal, string, scalar, white};
+ghost use Rattle.json_text.specs.Skips.{WsTo, Ends, Skips, Placed, Here, RunTo, SkipsSome, Exact, PlainByte, PlainTo, IfSo, Whether, spelling, in_turn};
+
+// The bytes of a character after its first, where RFC 3629 sets no narrower range.
+const TAIL: (u8, u8) = (0x80, 0xBF);
 
 // The bytes of a string that are looked at together.
 const BLOCK: usize = 16;
-
-// The place after what was passed over, or that it does not stand there.
-#[derive(Clone, Copy)]
-pub enum Skip {
-    To(usize),
-    Wrong,
-}
 
 // ---- Bytes and white space
 
@@ -23,10 +19,7 @@ pub enum Skip {
 pub fn peek(s: &[u8], at: usize) -> u8
     ensures { result ≡ get_or s.now at 0 }
 {
-    if at < s.len() {
-        return s[at];
-    }
-    0
+    s.get(at).copied().unwrap_or(0)
 }
 
 // Whether white space stands at `at`.
@@ -34,25 +27,11 @@ fn white_at(s: &[u8], at: usize) -> bool
     ensures { Here white s.now at result }
 {
     let b = peek(s, at);
-    if 32 < b {
-        return false;
-    }
-    if b == 32 {
-        return true;
-    }
-    if b == 9 {
-        return true;
-    }
-    if b == 10 {
-        return true;
-    }
-    if b == 13 {
-        return true;
-    }
-    false
+    b == b' ' || b == b'\t' || b == b'\n' || b == b'\r'
 }
 
-// The place after the white space at `at`.
+// The place after the white space at `at`. (A loop here and below: it looks for a place in the whole text,
+// where take_while and count would number the bytes of a slice of it and add.)
 pub fn skip_ws(s: &[u8], at: usize) -> usize
     requires { at ≤ length s.now }
     ensures { WsTo s.now at result }
@@ -70,13 +49,7 @@ fn one_of(s: &[u8], at: usize, x: u8, y: u8) -> bool
     ensures { Here (byte x or byte y) s.now at result }
 {
     let b = peek(s, at);
-    if b == x {
-        return true;
-    }
-    if b == y {
-        return true;
-    }
-    false
+    b == x || b == y
 }
 
 // Whether a byte from lo to hi stands at `at`.
@@ -85,95 +58,69 @@ fn in_range(s: &[u8], at: usize, lo: u8, hi: u8) -> bool
     ensures { Here (range lo hi) s.now at result }
 {
     let b = peek(s, at);
-    if b < lo {
-        return false;
-    }
-    if hi < b {
-        return false;
-    }
-    true
+    lo <= b && b <= hi
 }
 
 // ---- UTF-8 (RFC 3629)
 
-// Passes over two bytes, each in its range.
-fn skip_two(s: &[u8], at: usize, lo: u8, hi: u8, lo2: u8, hi2: u8) -> Skip
-    requires { (0 < lo) × (0 < lo2) }
-    ensures { Exact (range lo hi then range lo2 hi2) s.now at result }
+// Passes over a byte of each range in turn.
+fn skip_ranges(s: &[u8], at: usize, ranges: &[(u8, u8)]) -> Option<usize>
+    requires { (0 < length ranges.now) × All (λ r. 0 < r.0) ranges.now }
+    ensures { Exact (in_turn ranges.now) s.now at result }
 {
-    if in_range(s, at, lo, hi) {
-        if in_range(s, at + 1, lo2, hi2) {
-            return Skip::To(at + 2);
+    let mut i = at;
+    for r in ranges {
+        if !in_range(s, i, r.0, r.1) {
+            return None;
         }
+        i += 1;
     }
-    Skip::Wrong
-}
-
-// Passes over three bytes, the last a tail.
-fn skip_three(s: &[u8], at: usize, lo: u8, hi: u8, lo2: u8, hi2: u8) -> Skip
-    requires { (0 < lo) × (0 < lo2) }
-    ensures { Exact (range lo hi then range lo2 hi2 then tail) s.now at result }
-{
-    if in_range(s, at, lo, hi) {
-        return skip_two(s, at + 1, lo2, hi2, 128, 191);
-    }
-    Skip::Wrong
-}
-
-// Passes over four bytes, the last two tails.
-fn skip_four(s: &[u8], at: usize, lo: u8, hi: u8, lo2: u8, hi2: u8) -> Skip
-    requires { (0 < lo) × (0 < lo2) }
-    ensures { Exact (range lo hi then range lo2 hi2 then tail then tail) s.now at result }
-{
-    if in_range(s, at, lo, hi) {
-        return skip_three(s, at + 1, lo2, hi2, 128, 191);
-    }
-    Skip::Wrong
+    Some(i)
 }
 
 // Passes over a character of two bytes or more.
-fn skip_utf8(s: &[u8], at: usize) -> Skip
+fn skip_utf8(s: &[u8], at: usize) -> Option<usize>
     ensures { Exact utf8 s.now at result }
 {
     let b = peek(s, at);
-    if b < 224 {
-        return skip_two(s, at, 194, 223, 128, 191);
+    if b < 0xE0 {
+        return skip_ranges(s, at, &[(0xC2, 0xDF), TAIL]);
     }
-    if b < 240 {
+    if b < 0xF0 {
         return skip_utf8_three(s, at);
     }
     skip_utf8_four(s, at)
 }
 
 // Passes over a character of three bytes: neither overlong nor a surrogate.
-fn skip_utf8_three(s: &[u8], at: usize) -> Skip
+fn skip_utf8_three(s: &[u8], at: usize) -> Option<usize>
     ensures { Exact utf8_three s.now at result }
 {
     let b = peek(s, at);
-    if b < 225 {
-        return skip_three(s, at, 224, 224, 160, 191);
+    if b < 0xE1 {
+        return skip_ranges(s, at, &[(0xE0, 0xE0), (0xA0, 0xBF), TAIL]);
     }
-    if b < 237 {
-        return skip_three(s, at, 225, 236, 128, 191);
+    if b < 0xED {
+        return skip_ranges(s, at, &[(0xE1, 0xEC), TAIL, TAIL]);
     }
-    if b < 238 {
-        return skip_three(s, at, 237, 237, 128, 159);
+    if b < 0xEE {
+        return skip_ranges(s, at, &[(0xED, 0xED), (0x80, 0x9F), TAIL]);
     }
-    skip_three(s, at, 238, 239, 128, 191)
+    skip_ranges(s, at, &[(0xEE, 0xEF), TAIL, TAIL])
 }
 
 // Passes over a character of four bytes: not overlong, and at most 10FFFF.
-fn skip_utf8_four(s: &[u8], at: usize) -> Skip
+fn skip_utf8_four(s: &[u8], at: usize) -> Option<usize>
     ensures { Exact utf8_four s.now at result }
 {
     let b = peek(s, at);
-    if b < 241 {
-        return skip_four(s, at, 240, 240, 144, 191);
+    if b < 0xF1 {
+        return skip_ranges(s, at, &[(0xF0, 0xF0), (0x90, 0xBF), TAIL, TAIL]);
     }
-    if b < 244 {
-        return skip_four(s, at, 241, 243, 128, 191);
+    if b < 0xF4 {
+        return skip_ranges(s, at, &[(0xF1, 0xF3), TAIL, TAIL, TAIL]);
     }
-    skip_four(s, at, 244, 244, 128, 143)
+    skip_ranges(s, at, &[(0xF4, 0xF4), (0x80, 0x8F), TAIL, TAIL])
 }
 
 // ---- Strings
@@ -182,90 +129,62 @@ fn skip_utf8_four(s: &[u8], at: usize) -> Skip
 fn simple_at(s: &[u8], at: usize) -> bool
     ensures { Here simple s.now at result }
 {
-    if one_of(s, at, 34, 92) {
-        return true;
-    }
-    if one_of(s, at, 47, 98) {
-        return true;
-    }
-    if one_of(s, at, 102, 110) {
-        return true;
-    }
-    one_of(s, at, 114, 116)
+    matches!(
+        peek(s, at),
+        b'"' | b'\\' | b'/' | b'b' | b'f' | b'n' | b'r' | b't'
+    )
 }
 
 // Whether a hex digit stands at `at`.
 fn hex_at(s: &[u8], at: usize) -> bool
     ensures { Here hex s.now at result }
 {
-    if in_range(s, at, 48, 57) {
-        return true;
-    }
-    if in_range(s, at, 65, 70) {
-        return true;
-    }
-    in_range(s, at, 97, 102)
+    peek(s, at).is_ascii_hexdigit()
 }
 
 // Passes over four hex digits.
-fn skip_hex(s: &[u8], at: usize) -> Skip
+fn skip_hex(s: &[u8], at: usize) -> Option<usize>
     requires { at ≤ length s.now }
     ensures { Exact (hex then hex then hex then hex) s.now at result }
 {
-    if hex_at(s, at) {
-        if hex_at(s, at + 1) {
-            if hex_at(s, at + 2) {
-                if hex_at(s, at + 3) {
-                    return Skip::To(at + 4);
-                }
-            }
-        }
+    if hex_at(s, at) && hex_at(s, at + 1) && hex_at(s, at + 2) && hex_at(s, at + 3) {
+        return Some(at + 4);
     }
-    Skip::Wrong
+    None
 }
 
 // Passes over a character of a string.
-fn skip_char(s: &[u8], at: usize) -> Skip
+fn skip_char(s: &[u8], at: usize) -> Option<usize>
     requires { at ≤ length s.now }
     ensures { Exact char s.now at result }
 {
     let b = peek(s, at);
-    if b == 92 {
-        if peek(s, at + 1) == 117 {
+    if b == b'\\' {
+        if peek(s, at + 1) == b'u' {
             return skip_hex(s, at + 2);
         }
         if simple_at(s, at + 1) {
-            return Skip::To(at + 2);
+            return Some(at + 2);
         }
-        return Skip::Wrong;
+        return None;
     }
     if 127 < b {
         return skip_utf8(s, at);
     }
-    if b < 32 {
-        return Skip::Wrong;
+    if b < b' ' {
+        return None;
     }
-    if b == 34 {
-        return Skip::Wrong;
+    if b == b'"' {
+        return None;
     }
-    Skip::To(at + 1)
-}
-
-// Both, without a branch.
-fn both(a: bool, b: bool) -> bool
-    ensures { result ≡ a && b }
-{
-    if a {
-        return b;
-    }
-    false
+    Some(at + 1)
 }
 
 // Whether a byte is a character of a string by itself: ASCII, no control, quotation mark or backslash.
 fn is_plain(b: u8) -> bool
     ensures { Whether (PlainByte b) result }
 {
-    both(both(32 <= b, b <= 127), both(b != 34, b != 92))
+    b' ' <= b && b <= 127 && b != b'"' && b != b'\\'
 }
 
 // Whether a block of bytes at `at` is plain. It looks at each byte, so that the compiler can look at
@@ -278,10 +197,8 @@ fn plain_block(s: &[u8], at: usize) -> bool
         return false;
     }
     let mut plain = true;
-    let mut k = 0;
-    while k < BLOCK {
-        plain = both(plain, is_plain(s[at + k]));
-        k += 1;
+    for b in &s[at..at + BLOCK] {
+        plain &= is_plain(*b);
     }
     plain
 }
@@ -311,20 +228,18 @@ fn skip_plain(s: &[u8], at: usize) -> usize
 }
 
 // Passes over a string.
-pub fn skip_string(s: &[u8], at: usize) -> Skip
+pub fn skip_string(s: &[u8], at: usize) -> Option<usize>
     ensures { Exact string s.now at result }
 {
-    if peek(s, at) != 34 {
-        return Skip::Wrong;
+    if peek(s, at) != b'"' {
+        return None;
     }
     let mut i = skip_plain(s, at + 1);
-    while peek(s, i) != 34 {
-        let Skip::To(e) = skip_char(s, i) else {
-            return Skip::Wrong;
-        };
+    while peek(s, i) != b'"' {
+        let e = skip_char(s, i)?;
         i = skip_plain(s, e);
     }
-    Skip::To(i + 1)
+    Some(i + 1)
 }
 
 // ---- Numbers
@@ -333,14 +248,7 @@ pub fn skip_string(s: &[u8], at: usize) -> Skip
 fn digit_at(s: &[u8], at: usize) -> bool
     ensures { Here digit s.now at result }
 {
-    let b = peek(s, at);
-    if b < 48 {
-        return false;
-    }
-    if 57 < b {
-        return false;
-    }
-    true
+    peek(s, at).is_ascii_digit()
 }
 
 // The place after the digits at `at`.
@@ -356,63 +264,59 @@ fn skip_digits(s: &[u8], at: usize) -> usize
 }
 
 // Passes over one digit or more.
-fn skip_some_digits(s: &[u8], at: usize) -> Skip
+fn skip_some_digits(s: &[u8], at: usize) -> Option<usize>
     ensures { SkipsSome digit s.now at result }
 {
     if digit_at(s, at) {
-        return Skip::To(skip_digits(s, at + 1));
+        return Some(skip_digits(s, at + 1));
     }
-    Skip::Wrong
+    None
 }
 
 // Passes over an exponent, if there is one: the end of a number.
-fn skip_exp(s: &[u8], at: usize) -> Skip
+fn skip_exp(s: &[u8], at: usize) -> Option<usize>
     requires { at ≤ length s.now }
     ensures { Skips (option exp) s.now at result }
 {
-    if one_of(s, at, 101, 69) {
-        if one_of(s, at + 1, 45, 43) {
+    if one_of(s, at, b'e', b'E') {
+        if one_of(s, at + 1, b'-', b'+') {
             return skip_some_digits(s, at + 2);
         }
         return skip_some_digits(s, at + 1);
     }
-    Skip::To(at)
+    Some(at)
 }
 
 // Passes over a fraction, if there is one, and the end of a number.
-fn skip_frac(s: &[u8], at: usize) -> Skip
+fn skip_frac(s: &[u8], at: usize) -> Option<usize>
     requires { at ≤ length s.now }
     ensures { Skips (option frac then option exp) s.now at result }
 {
-    if peek(s, at) != 46 {
+    if peek(s, at) != b'.' {
         return skip_exp(s, at);
     }
-    let Skip::To(e) = skip_some_digits(s, at + 1) else {
-        return Skip::Wrong;
-    };
+    let e = skip_some_digits(s, at + 1)?;
     skip_exp(s, e)
 }
 
 // Passes over a number without its sign.
-fn skip_int(s: &[u8], at: usize) -> Skip
+fn skip_int(s: &[u8], at: usize) -> Option<usize>
     requires { at ≤ length s.now }
     ensures { Skips (int then option frac then option exp) s.now at result }
 {
-    if peek(s, at) == 48 {
+    if peek(s, at) == b'0' {
         return skip_frac(s, at + 1);
     }
-    let Skip::To(e) = skip_some_digits(s, at) else {
-        return Skip::Wrong;
-    };
+    let e = skip_some_digits(s, at)?;
     skip_frac(s, e)
 }
 
 // Passes over a number.
-fn skip_number(s: &[u8], at: usize) -> Skip
+fn skip_number(s: &[u8], at: usize) -> Option<usize>
     requires { at ≤ length s.now }
     ensures { Skips number s.now at result }
 {
-    if peek(s, at) == 45 {
+    if peek(s, at) == b'-' {
         return skip_int(s, at + 1);
     }
     skip_int(s, at)
@@ -420,51 +324,42 @@ fn skip_number(s: &[u8], at: usize) -> Skip
 
 // ---- Names and scalars
 
-// Passes over four bytes that are given.
-fn skip_word(s: &[u8], at: usize, a: u8, b: u8, c: u8, d: u8) -> Skip
-    requires { (at ≤ length s.now) × ((0 < a) × ((0 < b) × ((0 < c) × (0 < d)))) }
-    ensures { Skips (byte a then byte b then byte c then byte d) s.now at result }
+// Passes over the bytes of a word.
+fn skip_word(s: &[u8], at: usize, word: &[u8]) -> Option<usize>
+    requires { at ≤ length s.now }
+    ensures { Skips (spelling word.now) s.now at result }
 {
-    if peek(s, at) != a {
-        return Skip::Wrong;
+    if s[at..].starts_with(word) {
+        return Some(at + word.len());
     }
-    if peek(s, at + 1) != b {
-        return Skip::Wrong;
-    }
-    if peek(s, at + 2) != c {
-        return Skip::Wrong;
-    }
-    if peek(s, at + 3) != d {
-        return Skip::Wrong;
-    }
-    Skip::To(at + 4)
+    None
 }
 
 // Passes over false, null or true.
-fn skip_literal(s: &[u8], at: usize) -> Skip
+fn skip_literal(s: &[u8], at: usize) -> Option<usize>
     requires { at ≤ length s.now }
     ensures { Skips literal s.now at result }
 {
     let b = peek(s, at);
-    if b == 102 {
-        return skip_word(s, at + 1, 97, 108, 115, 101);
+    if b == b'f' {
+        return skip_word(s, at + 1, b"alse");
     }
-    if b == 110 {
-        return skip_word(s, at, 110, 117, 108, 108);
+    if b == b'n' {
+        return skip_word(s, at, b"null");
     }
-    skip_word(s, at, 116, 114, 117, 101)
+    skip_word(s, at, b"true")
 }
 
 // Passes over a value that is neither an object nor an array, whatever follows it.
-fn scalar_end(s: &[u8], at: usize) -> Skip
+fn scalar_end(s: &[u8], at: usize) -> Option<usize>
     requires { at ≤ length s.now }
     ensures { Skips scalar s.now at result }
 {
     let b = peek(s, at);
-    if b == 34 {
+    if b == b'"' {
         return skip_string(s, at);
     }
-    if 97 <= b {
+    if b'a' <= b {
         return skip_literal(s, at);
     }
     skip_number(s, at)
@@ -479,31 +374,20 @@ pub fn can_end(s: &[u8], at: usize) -> bool
         return true;
     }
     let b = s[at];
-    if b == 44 {
-        return true;
-    }
-    if b == 125 {
-        return true;
-    }
-    if b == 93 {
-        return true;
-    }
-    if b == 58 {
+    if b == b',' || b == b'}' || b == b']' || b == b':' {
         return true;
     }
     white_at(s, at)
 }
 
 // Passes over a value that is neither an object nor an array, where what follows can follow one.
-pub fn skip_scalar(s: &[u8], at: usize) -> Skip
+pub fn skip_scalar(s: &[u8], at: usize) -> Option<usize>
     requires { at ≤ length s.now }
     ensures { Placed scalar s.now at result }
 {
-    let Skip::To(e) = scalar_end(s, at) else {
-        return Skip::Wrong;
-    };
+    let e = scalar_end(s, at)?;
     if can_end(s, e) {
-        return Skip::To(e);
+        return Some(e);
     }
-    Skip::Wrong
+    None
 }

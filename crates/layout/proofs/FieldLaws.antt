@@ -1,10 +1,5 @@
 -- A field of an entry or a row, which is a part of the whole, stands at its place in the whole. Assumes nothing.
-use mathlib.Core.Path.{◌≡◌, sym, ap, ◌∙◌}
-use mathlib.Core.List.{List}
-use Prim.Native.Nat.{ℕ, ◌+◌, ◌-◌, ◌≤◌, ◌<◌}
-use native.Mathlib.Omega.{arith}
-use lib.ListN.{get_or, take, drop}
-use lib.Seq.{get_or-take, get_or-drop, take-take}
+use Rattle.std.proofs.Common.{◌≡◌, sym, ap, ◌∙◌, List, ℕ, ◌+◌, ◌-◌, ◌≤◌, ◌<◌, arith, get_or, take, drop, get_or-take, get_or-drop, take-take}
 use Rattle.rules.specs.Bytes.{value, part}
 use Rattle.rules.specs.Layout.{entry_of, id_in, entry_size}
 use Rattle.rules.specs.Room.{hash_size, id_most}

@@ -1,5 +1,5 @@
 -- Each public function has one outcome. Assumes nothing.
-use mathlib.Core.Path.{refl, ap}
+use Rattle.std.proofs.Common.{refl, ap}
 use Rattle.rules.specs.declared.RevNumber.{RevNumber}
 use Rattle.rules.specs.declared.Seq.{Seq}
 use Rattle.rules.specs.Outcome.{OneOutcome, OneOutcomeBy, nothing}

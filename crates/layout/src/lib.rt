@@ -1,6 +1,7 @@
 // Layout: where each field of a head, an entry and a row stands, and each field read and written.
 // An image and a replica's buffer have the same parts; a buffer keeps room for all of them. It uses the
-// crates rules and octets.
+// crates rules and octets. Each field has functions of its own, even where two differ in their place alone:
+// a promise names its field, and a body is no longer than the call of a generic one would be.
 #![tactic(auto)]
 
 use rules::{DOCUMENTS, HASH, ID_MOST, REVISIONS};

@@ -1,5 +1,8 @@
 -- What is put out, cut after each newline, is its lines. Assumes nothing.
 use mathlib.Core.Path.{◌≡◌, refl, sym, ap, ◌∙◌, subst}
+use Rattle.rules.specs.declared.Refusal.{Refusal}
+use Rattle.rules.specs.declared.Outcome.{Outcome}
+use Rattle.std.specs.Prelude.{Result}
 use mathlib.Core.Bool.{Bool, false, not}
 use mathlib.Core.List.{List, [], ◌∷◌, ◌++◌, map, append_assoc}
 use mathlib.Core.Logic.{inl, inr}
@@ -9,7 +12,6 @@ use lib.Dec.{eqb}
 use borrow.Author.Tests.{ne_eqb}
 use Rattle.rules.specs.declared.Content.{Content}
 use Rattle.rules.specs.declared.Content.TheVariants.{Live, Deleted}
-use Rattle.rules.specs.declared.Written.{Written}
 use Rattle.rules.specs.Bytes.{join}
 use Rattle.rules.specs.Choice.{any}
 use Rattle.rules.specs.Read.{LeafOf, leaves, path_of}
@@ -172,14 +174,14 @@ dump_cut r k w =
 -- ---- a dump
 
 -- all of a replica put out, cut after each newline and taken into a fresh one, line by line
-pub dump_copied : (r : Replica) → IsReplica r → AllWritable r → (xs : List Written) (left : Replica)
+pub dump_copied : (r : Replica) → IsReplica r → AllWritable r → (xs : List (Result Outcome Refusal)) (left : Replica)
     → TakesAll fresh (cut_lines (dump_text r.documents)) xs left → Copied r xs left
 dump_copied r k w xs left t =
     whole_copied r k w (lines_in r.documents) (λ l. (λ m. m, λ m. m)) xs left
     (subst (λ (ls : List (List ℕ)). TakesAll fresh ls xs left) (dump_cut r k w) t)
 
 -- and into itself
-pub dump_stays : (r : Replica) → IsReplica r → AllWritable r → (xs : List Written) (left : Replica)
+pub dump_stays : (r : Replica) → IsReplica r → AllWritable r → (xs : List (Result Outcome Refusal)) (left : Replica)
     → TakesAll r (cut_lines (dump_text r.documents)) xs left → Stayed r xs left
 dump_stays r k w xs left t =
     whole_stays r k w (lines_in r.documents) (λ l m. m) xs left (subst (λ (ls : List (List ℕ)). TakesAll r ls xs left) (dump_cut r k w) t)

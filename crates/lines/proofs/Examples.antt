@@ -1,15 +1,15 @@
 -- The table of lines in and out, as one statement. Assumes nothing.
 use mathlib.Core.Path.{◌≡◌, refl, sym}
+use Rattle.std.specs.declared.cmp.Ordering.TheVariants.{Less, Equal, Greater}
+use Rattle.std.specs.declared.cmp.Ordering.{Ordering}
 use mathlib.Core.Bool.{Bool, true, false, ◌&&◌, true≢false}
 use mathlib.Core.List.{List, [], ◌∷◌}
-use mathlib.Core.Option.{Option, none, some}
+use Rattle.std.specs.Prelude.{Option, None, Some}
 use Prim.Native.Nat.{ℕ}
 use native.Mathlib.Omega.{arith}
 use lib.Dec.{eqb}
 use lib.ListN.{get_or}
 use borrow.Author.Tests.{eqb-true, eqb-false}
-use Rattle.rules.specs.declared.Order.{Order}
-use Rattle.rules.specs.declared.Order.TheVariants.{Less, Equal, Greater}
 use Rattle.rules.specs.Answer.{Numbered, written_number}
 use Rattle.rules.specs.Bytes.{join, pieces}
 use Rattle.rules.specs.Choice.{any, how_many, first_that}
@@ -51,17 +51,17 @@ no_line s = go (eqb (get_or s 0 0) 123) refl (eqb (get_or s 0 0) 32) refl (eqb (
     go : (a : Bool) → eqb (get_or s 0 0) 123 ≡ a → (b : Bool) → eqb (get_or s 0 0) 32 ≡ b → (c : Bool) → eqb (get_or s 0 0) 9 ≡ c
         → (d : Bool) → eqb (get_or s 0 0) 10 ≡ d → (f : Bool) → eqb (get_or s 0 0) 13 ≡ f → Option (line s [] → ⊥)
     go false ea false eb false ec false ed false ef =
-        some (λ l. line_no_brace s 0 (wide (eqb-false _ 32 eb) (eqb-false _ 9 ec) (eqb-false _ 10 ed) (eqb-false _ 13 ef)) (eqb-false _ 123 ea) (line_from_rfc s [] l))
-    go true ea b eb c ec d ed f ef = none
-    go false ea true eb c ec d ed f ef = none
-    go false ea false eb true ec d ed f ef = none
-    go false ea false eb false ec true ed f ef = none
-    go false ea false eb false ec false ed true ef = none
+        Some (λ l. line_no_brace s 0 (wide (eqb-false _ 32 eb) (eqb-false _ 9 ec) (eqb-false _ 10 ed) (eqb-false _ 13 ef)) (eqb-false _ 123 ea) (line_from_rfc s [] l))
+    go true ea b eb c ec d ed f ef = None
+    go false ea true eb c ec d ed f ef = None
+    go false ea false eb true ec d ed f ef = None
+    go false ea false eb false ec true ed f ef = None
+    go false ea false eb false ec false ed true ef = None
 
 equal_same : (a b : List ℕ) → is_equal (order_bytes a b) ≡ true → a ≡ b
 equal_same a b e = go (order_bytes a b) refl e
   where
-    go : (o : Order) → order_bytes a b ≡ o → is_equal o ≡ true → a ≡ b
+    go : (o : Ordering) → order_bytes a b ≡ o → is_equal o ≡ true → a ≡ b
     go Equal q e = order_bytes_same a b q
     go Less q e = absurd (true≢false (sym e))
     go Greater q e = absurd (true≢false (sym e))
@@ -71,7 +71,7 @@ refuted : (t : List ℕ) → (line t [] → ⊥) → (s : List ℕ) → Option (
 refuted t f s o = go (is_equal (order_bytes s t)) refl
   where
     go : (b : Bool) → is_equal (order_bytes s t) ≡ b → Option (line s [] → ⊥)
-    go true e = some (λ l. f (rw (equal_same s t e) at l))
+    go true e = Some (λ l. f (rw (equal_same s t e) at l))
     go false e = o
 
 holding : (s : List ℕ) → Option ((m : Option Members) × Holds s m)
@@ -79,12 +79,12 @@ unfolding line_read no_line refuted zero_line two_line deep_line
 holding s = yes (line_read s)
   where
     no : Option (line s [] → ⊥) → Option ((m : Option Members) × Holds s m)
-    no none = none
-    no (some f) = some (none, f)
+    no None = None
+    no (Some f) = Some (None, f)
 
     yes : Option ((ms : Members) × line_of ms s) → Option ((m : Option Members) × Holds s m)
-    yes none = no (refuted zero_line zero_no_line s (refuted two_line two_no_line s (refuted deep_line deep_no_line s (no_line s))))
-    yes (some x) = some (some x.0, x.1)
+    yes None = no (refuted zero_line zero_no_line s (refuted two_line two_no_line s (refuted deep_line deep_no_line s (no_line s))))
+    yes (Some x) = Some (Some x.0, x.1)
 
 -- ---- the table
 
@@ -101,8 +101,8 @@ same_true m n e =
 -- whether the steps go as the table says, by what each text holds
 taken_so : (s : List ℕ) → Option ((m : Option Members) × Holds s m) → Replica → Numbered → (Replica → Bool) → Bool
 unfolding same
-taken_so s none r n more = false
-taken_so s (some h) r n more = same (written_number (take_in r h.0).0) n && more (take_in r h.0).1
+taken_so s None r n more = false
+taken_so s (Some h) r n more = same (written_number (take_in r h.0).0) n && more (take_in r h.0).1
 
 goes : Replica → List Step → Bool
 unfolding taken_so holding
@@ -120,8 +120,8 @@ goes_so r (takes l n ∷ steps) e = go (holding (texts l)) e (λ q f. goes_so q 
   where
     go : (o : Option ((m : Option Members) × Holds (texts l) m)) → taken_so (texts l) o r n (λ q. goes q steps) ≡ true
         → ((q : Replica) → goes q steps ≡ true → Goes q steps) → Goes r (takes l n ∷ steps)
-    go none e ih = absurd (true≢false (sym e))
-    go (some h) e ih =
+    go None e ih = absurd (true≢false (sym e))
+    go (Some h) e ih =
         let o = take_in r h.0 in
         let b = same (written_number o.0) n in (
           o,

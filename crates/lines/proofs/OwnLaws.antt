@@ -1,16 +1,16 @@
 -- The offers of a replica's documents: they give what it holds, agree, fit, and change nothing in it. Assumes nothing.
 use mathlib.Core.Path.{◌≡◌, refl, sym, ap, ◌∙◌, subst}
+use Rattle.std.specs.Prelude.{Ok}
 use mathlib.Core.Bool.{Bool, false}
 use mathlib.Core.List.{List, [], ◌∷◌, ◌++◌, map}
 use mathlib.Core.Logic.{inl, inr}
-use mathlib.Core.Option.{Option, none, some}
+use Rattle.std.specs.Prelude.{Option, None, Some}
 use Prim.Native.Nat.{suc, ◌+◌}
 use native.Mathlib.Omega.{arith}
 use lib.ListN.{length, length-append}
 use borrow.Author.Tests.{le-ltb}
 use Rattle.rules.specs.declared.Outcome.TheVariants.{Unchanged}
 use Rattle.rules.specs.declared.Revision.{Revision}
-use Rattle.rules.specs.declared.Written.TheVariants.{Accepted}
 use Rattle.rules.specs.Choice.{any, how_many}
 use Rattle.rules.specs.Order.{same_rev}
 use Rattle.rules.specs.Pull.{offer, offers_of, offers_in, offers}
@@ -153,8 +153,8 @@ module _ (r : Replica) (k : IsReplica r) where
         (λ x n. rw (own x n) (same_differ agree x.1.content x.1.content (λ a b p q. true_agree a b (some_inj (sym p ∙ q)))))
 
     lacks_none : (o : Option Revision) → lacks_parent o o ≡ false
-    lacks_none none = refl
-    lacks_none (some p) = refl
+    lacks_none None = refl
+    lacks_none (Some p) = refl
 
     adds_none : adds r w ≡ false
     unfolding is_addition
@@ -188,7 +188,7 @@ module _ (r : Replica) (k : IsReplica r) where
     unfolding sequence_spent
     seq_room = rw adds_none refl
 
-    pub own_unchanged : write r w ≡ (Accepted Unchanged, r)
+    pub own_unchanged : write r w ≡ (Ok Unchanged, r)
     unfolding write
     own_unchanged =
         rw (

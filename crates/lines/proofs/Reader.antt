@@ -3,7 +3,7 @@ use mathlib.Core.Path.{◌≡◌, refl, sym, ap, ◌∙◌}
 use mathlib.Core.Bool.{Bool, true, false}
 use mathlib.Core.List.{List, [], ◌∷◌, ◌++◌, append_assoc}
 use mathlib.Core.Logic.{inl, inr}
-use mathlib.Core.Option.{Option, none, some}
+use Rattle.std.specs.Prelude.{Option, None, Some}
 use Prim.Native.Nat.{ℕ, zero, suc}
 use lib.Dec.{eqb, leb}
 use borrow.Author.Tests.{leb-true, eqb-true}
@@ -31,22 +31,22 @@ Reader P = (a : List ℕ) → Option (Read P a)
 
 r_byte : (n : ℕ) → Reader (byte n)
 unfolding byte
-r_byte n [] = none
+r_byte n [] = None
 r_byte n (c ∷ a) = go (eqb c n) refl
   where
     go : (b : Bool) → eqb c n ≡ b → Option (Read (byte n) (c ∷ a))
-    go true e = some (record { text = c ∷ []; rest = a; is = ap (λ (x : ℕ). x ∷ a) (eqb-true c n e); spells = refl })
-    go false e = none
+    go true e = Some (record { text = c ∷ []; rest = a; is = ap (λ (x : ℕ). x ∷ a) (eqb-true c n e); spells = refl })
+    go false e = None
 
 r_range : (lo hi : ℕ) → Reader (range lo hi)
 unfolding range
-r_range lo hi [] = none
+r_range lo hi [] = None
 r_range lo hi (c ∷ a) = go (leb lo c) refl (leb c hi) refl
   where
     go : (b : Bool) → leb lo c ≡ b → (d : Bool) → leb c hi ≡ d → Option (Read (range lo hi) (c ∷ a))
-    go true e true f = some (record { text = c ∷ []; rest = a; is = (c, (leb-true lo c e, (leb-true c hi f, refl))); spells = refl })
-    go true e false f = none
-    go false e d f = none
+    go true e true f = Some (record { text = c ∷ []; rest = a; is = (c, (leb-true lo c e, (leb-true c hi f, refl))); spells = refl })
+    go true e false f = None
+    go false e d f = None
 
 module _ (P Q : Rule) (p : Reader P) (q : Reader Q) where
   r_then : Reader (P then Q)
@@ -54,25 +54,25 @@ module _ (P Q : Rule) (p : Reader P) (q : Reader Q) where
   r_then a = go (p a)
     where
       more : (x : Read P a) → Option (Read Q x.rest) → Option (Read (P then Q) a)
-      more x none = none
-      more x (some y) =
-          some (record { text = x.text ++ y.text; rest = y.rest; is = (x.rest, (x.is, y.is)); spells = both_spell x.text y.text y.rest x.spells y.spells })
+      more x None = None
+      more x (Some y) =
+          Some (record { text = x.text ++ y.text; rest = y.rest; is = (x.rest, (x.is, y.is)); spells = both_spell x.text y.text y.rest x.spells y.spells })
 
       go : Option (Read P a) → Option (Read (P then Q) a)
-      go none = none
-      go (some x) = more x (q x.rest)
+      go None = None
+      go (Some x) = more x (q x.rest)
 
   r_or : Reader (P or Q)
   unfolding ◌or◌
   r_or a = go (p a)
     where
       other : Option (Read Q a) → Option (Read (P or Q) a)
-      other none = none
-      other (some y) = some (record { text = y.text; rest = y.rest; is = inr y.is; spells = y.spells })
+      other None = None
+      other (Some y) = Some (record { text = y.text; rest = y.rest; is = inr y.is; spells = y.spells })
 
       go : Option (Read P a) → Option (Read (P or Q) a)
-      go (some x) = some (record { text = x.text; rest = x.rest; is = inl x.is; spells = x.spells })
-      go none = other (q a)
+      go (Some x) = Some (record { text = x.text; rest = x.rest; is = inl x.is; spells = x.spells })
+      go None = other (q a)
 
 module _ (P : Rule) (p : Reader P) where
   r_option : Reader (option P)
@@ -80,8 +80,8 @@ module _ (P : Rule) (p : Reader P) where
   r_option a = go (p a)
     where
       go : Option (Read P a) → Option (Read (option P) a)
-      go none = some (record { text = []; rest = a; is = inl refl; spells = refl })
-      go (some x) = some (record { text = x.text; rest = x.rest; is = inr x.is; spells = x.spells })
+      go None = Some (record { text = []; rest = a; is = inl refl; spells = refl })
+      go (Some x) = Some (record { text = x.text; rest = x.rest; is = inr x.is; spells = x.spells })
 
   -- as often as it stands there, at most once for each element of a list
   many_from : List ℕ → (a : List ℕ) → Read (many P) a
@@ -89,14 +89,14 @@ module _ (P : Rule) (p : Reader P) where
   many_from (f ∷ fuel) a = go (p a) (λ b. many_from fuel b)
     where
       go : Option (Read P a) → ((b : List ℕ) → Read (many P) b) → Read (many P) a
-      go none ih = record { text = []; rest = a; is = grammar.none; spells = refl }
-      go (some x) ih =
+      go None ih = record { text = []; rest = a; is = grammar.none; spells = refl }
+      go (Some x) ih =
           let y = ih x.rest in
           record { text = x.text ++ y.text; rest = y.rest; is = grammar.more x.is y.is; spells = both_spell x.text y.text y.rest x.spells y.spells }
 
   r_many : Reader (many P)
   unfolding many_from
-  r_many a = some (many_from a a)
+  r_many a = Some (many_from a a)
 
 r_ws : Reader ws
 unfolding ws white r_byte r_or r_many
@@ -191,16 +191,16 @@ unfolding spelt r_scalar
 f_scalar a = go (r_scalar a)
   where
     go : Option (Read scalar a) → Option (Found (spelt scalar) a)
-    go none = none
-    go (some x) = some (record { what = x.text; rest = x.rest; is = (x.is, x.spells) })
+    go None = None
+    go (Some x) = Some (record { what = x.text; rest = x.rest; is = (x.is, x.spells) })
 
 f_name : Finder (spelt string)
 unfolding spelt r_string
 f_name a = go (r_string a)
   where
     go : Option (Read string a) → Option (Found (spelt string) a)
-    go none = none
-    go (some x) = some (record { what = x.text; rest = x.rest; is = (x.is, x.spells) })
+    go None = None
+    go (Some x) = Some (record { what = x.text; rest = x.rest; is = (x.is, x.spells) })
 
 r_value_separator : Reader value_separator
 unfolding value_separator r_byte r_then r_ws
@@ -213,40 +213,40 @@ r_name_separator = r_then _ _ r_ws (r_then _ _ (r_byte 58) r_ws)
 module _ {A : Type 0} (item : A → Rule) (end : Rule) (i : Finder item) (e : Reader end) where
   others_from : List ℕ → Finder (others item end)
   unfolding others ◌then◌ r_value_separator
-  others_from [] a = none
+  others_from [] a = None
   others_from (f ∷ fuel) a = first (e a) (λ b. others_from fuel b)
     where
       third : (b c : List ℕ) (x : A) → value_separator a b → item x b c → Option (Found (others item end) c) → Option (Found (others item end) a)
-      third b c x p q none = none
-      third b c x p q (some o) = some (record { what = x ∷ o.what; rest = o.rest; is = (b, (p, (c, (q, o.is)))) })
+      third b c x p q None = None
+      third b c x p q (Some o) = Some (record { what = x ∷ o.what; rest = o.rest; is = (b, (p, (c, (q, o.is)))) })
 
       second : (b : List ℕ) → value_separator a b → Option (Found item b) → Finder (others item end) → Option (Found (others item end) a)
-      second b p none ih = none
-      second b p (some x) ih = third b x.rest x.what p x.is (ih x.rest)
+      second b p None ih = None
+      second b p (Some x) ih = third b x.rest x.what p x.is (ih x.rest)
 
       comma : Option (Read value_separator a) → Finder (others item end) → Option (Found (others item end) a)
-      comma none ih = none
-      comma (some x) ih = second x.rest x.is (i x.rest) ih
+      comma None ih = None
+      comma (Some x) ih = second x.rest x.is (i x.rest) ih
 
       first : Option (Read end a) → Finder (others item end) → Option (Found (others item end) a)
-      first (some x) ih = some (record { what = []; rest = x.rest; is = x.is })
-      first none ih = comma (r_value_separator a) ih
+      first (Some x) ih = Some (record { what = []; rest = x.rest; is = x.is })
+      first None ih = comma (r_value_separator a) ih
 
   f_items : Finder (items item end)
   unfolding items ◌then◌ others_from
   f_items a = first (e a)
     where
       second : (b : List ℕ) (x : A) → item x a b → Option (Found (others item end) b) → Option (Found (items item end) a)
-      second b x p none = none
-      second b x p (some o) = some (record { what = x ∷ o.what; rest = o.rest; is = (b, (p, o.is)) })
+      second b x p None = None
+      second b x p (Some o) = Some (record { what = x ∷ o.what; rest = o.rest; is = (b, (p, o.is)) })
 
       item_first : Option (Found item a) → Option (Found (items item end) a)
-      item_first none = none
-      item_first (some x) = second x.rest x.what x.is (others_from x.rest x.rest)
+      item_first None = None
+      item_first (Some x) = second x.rest x.what x.is (others_from x.rest x.rest)
 
       first : Option (Read end a) → Option (Found (items item end) a)
-      first (some x) = some (record { what = []; rest = x.rest; is = x.is })
-      first none = item_first (i a)
+      first (Some x) = Some (record { what = []; rest = x.rest; is = x.is })
+      first None = item_first (i a)
 
 module _ {A : Type 0} (v : A → Rule) (f : Finder v) where
   f_member : Finder (member_of v)
@@ -254,40 +254,40 @@ module _ {A : Type 0} (v : A → Rule) (f : Finder v) where
   f_member a = named (f_name a)
     where
       valued : (t b c : List ℕ) → spelt string t a b → name_separator b c → Option (Found v c) → Option (Found (member_of v) a)
-      valued t b c p q none = none
-      valued t b c p q (some x) = some (record { what = (t, x.what); rest = x.rest; is = (b, (p, (c, (q, x.is)))) })
+      valued t b c p q None = None
+      valued t b c p q (Some x) = Some (record { what = (t, x.what); rest = x.rest; is = (b, (p, (c, (q, x.is)))) })
 
       colon : (t b : List ℕ) → spelt string t a b → Option (Read name_separator b) → Option (Found (member_of v) a)
-      colon t b p none = none
-      colon t b p (some x) = valued t b x.rest p x.is (f x.rest)
+      colon t b p None = None
+      colon t b p (Some x) = valued t b x.rest p x.is (f x.rest)
 
       named : Option (Found (spelt string) a) → Option (Found (member_of v) a)
-      named none = none
-      named (some x) = colon x.what x.rest x.is (r_name_separator x.rest)
+      named None = None
+      named (Some x) = colon x.what x.rest x.is (r_name_separator x.rest)
 
   f_object : Finder (object_of v)
   unfolding object_of begin_object end_object ◌then◌ r_byte r_then r_ws f_items f_member
   f_object a = opened (r_then _ _ (r_byte 123) r_ws a)
     where
       listed : (b : List ℕ) → (byte 123 then ws) a b → Option (Found (items (member_of v) end_object) b) → Option (Found (object_of v) a)
-      listed b p none = none
-      listed b p (some x) = some (record { what = x.what; rest = x.rest; is = (b, (p, x.is)) })
+      listed b p None = None
+      listed b p (Some x) = Some (record { what = x.what; rest = x.rest; is = (b, (p, x.is)) })
 
       opened : Option (Read (byte 123 then ws) a) → Option (Found (object_of v) a)
-      opened none = none
-      opened (some x) = listed x.rest x.is (f_items (member_of v) end_object f_member (r_then _ _ r_ws (r_byte 125)) x.rest)
+      opened None = None
+      opened (Some x) = listed x.rest x.is (f_items (member_of v) end_object f_member (r_then _ _ r_ws (r_byte 125)) x.rest)
 
   f_array : Finder (array_of v)
   unfolding array_of begin_array end_array ◌then◌ r_byte r_then r_ws f_items
   f_array a = opened (r_then _ _ (r_byte 91) r_ws a)
     where
       listed : (b : List ℕ) → (byte 91 then ws) a b → Option (Found (items v end_array) b) → Option (Found (array_of v) a)
-      listed b p none = none
-      listed b p (some x) = some (record { what = x.what; rest = x.rest; is = (b, (p, x.is)) })
+      listed b p None = None
+      listed b p (Some x) = Some (record { what = x.what; rest = x.rest; is = (b, (p, x.is)) })
 
       opened : Option (Read (byte 91 then ws) a) → Option (Found (array_of v) a)
-      opened none = none
-      opened (some x) = listed x.rest x.is (f_items v end_array f (r_then _ _ r_ws (r_byte 93)) x.rest)
+      opened None = None
+      opened (Some x) = listed x.rest x.is (f_items v end_array f (r_then _ _ r_ws (r_byte 93)) x.rest)
 
 f_value : (d : ℕ) → Finder (value_of d)
 unfolding value_of form_of f_scalar f_object f_array
@@ -295,16 +295,16 @@ f_value zero a = f_scalar a
 f_value (suc d) a = by_scalar (f_value d) (f_scalar a)
   where
     by_array : Option (Found (array_of (value_of d)) a) → Option (Found (value_of (suc d)) a)
-    by_array none = none
-    by_array (some x) = some (record { what = array x.what; rest = x.rest; is = x.is })
+    by_array None = None
+    by_array (Some x) = Some (record { what = array x.what; rest = x.rest; is = x.is })
 
     by_object : Finder (value_of d) → Option (Found (object_of (value_of d)) a) → Option (Found (value_of (suc d)) a)
-    by_object f (some x) = some (record { what = object x.what; rest = x.rest; is = x.is })
-    by_object f none = by_array (f_array (value_of d) f a)
+    by_object f (Some x) = Some (record { what = object x.what; rest = x.rest; is = x.is })
+    by_object f None = by_array (f_array (value_of d) f a)
 
     by_scalar : Finder (value_of d) → Option (Found (spelt scalar) a) → Option (Found (value_of (suc d)) a)
-    by_scalar f (some x) = some (record { what = plain x.what; rest = x.rest; is = x.is })
-    by_scalar f none = by_object f (f_object (value_of d) f a)
+    by_scalar f (Some x) = Some (record { what = plain x.what; rest = x.rest; is = x.is })
+    by_scalar f None = by_object f (f_object (value_of d) f a)
 
 -- ---- lines
 
@@ -314,17 +314,17 @@ unfolding line_of ◌then◌ r_ws f_object f_value
 line_read s = start (r_ws s)
   where
     done : (a b : List ℕ) (ms : List (List ℕ × Json 15)) → ws s a → object_of (value_of 15) ms a b → (c : List ℕ) → ws b c → Option ((ms : List (List ℕ × Json 15)) × line_of ms s)
-    done a b ms p q [] w = some (ms, (a, (p, (b, (q, w)))))
-    done a b ms p q (x ∷ c) w = none
+    done a b ms p q [] w = Some (ms, (a, (p, (b, (q, w)))))
+    done a b ms p q (x ∷ c) w = None
 
     end : (a b : List ℕ) (ms : List (List ℕ × Json 15)) → ws s a → object_of (value_of 15) ms a b → Option (Read ws b) → Option ((ms : List (List ℕ × Json 15)) × line_of ms s)
-    end a b ms p q none = none
-    end a b ms p q (some w) = done a b ms p q w.rest w.is
+    end a b ms p q None = None
+    end a b ms p q (Some w) = done a b ms p q w.rest w.is
 
     middle : (a : List ℕ) → ws s a → Option (Found (object_of (value_of 15)) a) → Option ((ms : List (List ℕ × Json 15)) × line_of ms s)
-    middle a p none = none
-    middle a p (some x) = end a x.rest x.what p x.is (r_ws x.rest)
+    middle a p None = None
+    middle a p (Some x) = end a x.rest x.what p x.is (r_ws x.rest)
 
     start : Option (Read ws s) → Option ((ms : List (List ℕ × Json 15)) × line_of ms s)
-    start none = none
-    start (some x) = middle x.rest x.is (f_object (value_of 15) (f_value 15) x.rest)
+    start None = None
+    start (Some x) = middle x.rest x.is (f_object (value_of 15) (f_value 15) x.rest)

@@ -1,7 +1,7 @@
 -- Readings of 41 to 43 and of what is put out: members with the number that taking them into a fresh replica gives. Assumes nothing.
 use mathlib.Core.Path.{◌≡◌, refl}
 use mathlib.Core.List.{List, [], ◌∷◌, map}
-use mathlib.Core.Option.{some}
+use Rattle.std.specs.Prelude.{Some}
 use Prim.Native.Nat.{ℕ}
 use Prim.Native.String.{String}
 use Rattle.rules.specs.declared.Content.TheVariants.{Live, Deleted}
@@ -44,7 +44,7 @@ abbrev revisions : {A : Type 0} → String → List String → Form (Form (Form 
 revisions n hs = object (member "start" (word n) ∷ member "ids" (array (map string hs)) ∷ [])
 
 abbrev number : Members → Numbered
-number ms = written_number (take_in fresh (some ms)).0
+number ms = written_number (take_in fresh (Some ms)).0
 
 abbrev line : String → String → List (List ℕ × Json 15) → Members
 line i v more = member "_id" (string i) ∷ member "_rev" (string v) ∷ more

@@ -1,5 +1,6 @@
 -- Texts that are no lines, for the proved examples: a spare zero, too deep, more than one object. Assumes nothing.
 use mathlib.Core.Path.{◌≡◌, refl, sym, ◌∙◌}
+use Rattle.std.specs.Prelude.{None}
 use mathlib.Core.List.{List, []}
 use mathlib.Core.Logic.{◌⊎◌, inl, inr}
 use Prim.Native.Nat.{ℕ, zero, suc, ◌+◌, ◌≤◌, ◌<◌}
@@ -12,7 +13,6 @@ use Rattle.json_text.specs.Grammar as grammar
 use Rattle.json_text.specs.Grammar.{◌then◌, option, ws, string, int, frac, exp, number}
 use Rattle.json_text.specs.Rfc as rfc
 use Rattle.json_text.specs.Skips.{WsTo, EndsAt, NoText, Not}
-use Rattle.json_text.specs.declared.Skip.TheVariants.{Wrong}
 use Rattle.json_text.specs.Tight.{begin_array, end_array, begin_object, end_object, array, member, object, value}
 use Rattle.json_text.proofs.WsLaws.{white_no, stands}
 use Rattle.json_text.proofs.ListLaws.{Dark, Listed, closes_array, closes_object, list_none, list_first, list_no_item}
@@ -45,14 +45,14 @@ module _ (s : List ℕ) (at : ℕ) (z : get_or s at 0 ≡ 48) (l : 48 ≤ get_or
   no_number : NoText number s at
   unfolding NoText Not
   no_number =
-      skips_runs number (int then option frac then option exp) s at at (number_plain s at (λ e. omega arith)) Wrong
-      (skips_runs (int then option frac then option exp) (option frac then option exp) s at (at + 1) (int_zero s at z) Wrong
-      (skips_runs (option frac then option exp) (option exp) s (at + 1) (at + 1) (frac_none s (at + 1) (λ e. omega arith)) Wrong
+      skips_runs number (int then option frac then option exp) s at at (number_plain s at (λ e. omega arith)) None
+      (skips_runs (int then option frac then option exp) (option frac then option exp) s at (at + 1) (int_zero s at z) None
+      (skips_runs (option frac then option exp) (option exp) s (at + 1) (at + 1) (frac_none s (at + 1) (λ e. omega arith)) None
       (λ r p q. end_nodigit (drop (at + 1) s) r p q _ (digit_yes s (at + 1) l h).1)))
 
   spare_zero_lem : (d : ℕ) → NoText (value d) s at
   spare_zero_lem d =
-      skips_scalar s at d (λ e. omega arith) (λ e. omega arith) Wrong (scalar_number s at (λ e. omega arith) (omega arith) Wrong no_number)
+      skips_scalar s at d (λ e. omega arith) (λ e. omega arith) None (scalar_number s at (λ e. omega arith) (omega arith) None no_number)
 
 -- ---- arrays in arrays
 
@@ -85,7 +85,7 @@ opens (suc d) s at o = o.0
 too_deep : (d : ℕ) (s : List ℕ) (at : ℕ) → Opens d s at → NoText (value d) s at
 too_deep zero s at o = value_too_deep s at 0 91 o (inl refl) refl
 too_deep (suc d) s at o =
-    skips_array s at (suc d) o.0 (λ e. omega arith) Wrong
+    skips_array s at (suc d) o.0 (λ e. omega arith) None
     (rw sub-one (no_items d s at 91 o.0 (opens d s (at + 1) o.1) (inr refl) (too_deep d s (at + 1) o.1)))
 
 -- ---- lines
@@ -102,7 +102,7 @@ module _ (s : List ℕ) (b : get_or s 0 0 ≡ 123) where
       let m : NoText (member (value 15)) s 1 =
       skips_goes (member (value 15)) (value 15) s 1 (e + 1)
       (member_goes (value 15) (value_headed 15) s 1 e e n (no_white s e 58 k (omega arith) (dark_high 58 (omega arith))) (e + 1) k (no_white s (e + 1) c f (omega arith) (dark_high c h)))
-      Wrong v in
+      None v in
       line_no_object s 0 at_once
       (list_no_item 125 (member (value 15)) closes_object (member_headed (value 15)) (Listed 123 125 (member (value 15))) s 0 1
       (list_first 125 (member (value 15)) closes_object (member_headed (value 15)) 123 s 0 b (omega arith) 1 (no_white s 1 34 q (omega arith) (dark_high 34 (omega arith)))

@@ -1,9 +1,12 @@
 -- "What we put out comes back as the same write." Assumes nothing.
 use mathlib.Core.Path.{◌≡◌, refl, sym, ap, ◌∙◌}
+use Rattle.rules.specs.declared.Refusal.{Refusal}
+use Rattle.rules.specs.declared.Outcome.{Outcome}
+use Rattle.std.specs.Prelude.{Result}
 use mathlib.Core.Bool.{false}
 use mathlib.Core.List.{List, [], ◌∷◌, ◌++◌, map, append_assoc}
 use mathlib.Core.Logic.{inl, inr}
-use mathlib.Core.Option.{Option, none, some}
+use Rattle.std.specs.Prelude.{Option, None, Some}
 use Prim.Native.Nat.{ℕ, zero, suc, pred, ◌≤◌}
 use native.Mathlib.Omega.{arith}
 use lib.ListN.{length}
@@ -11,7 +14,6 @@ use borrow.Author.Tests.{eq-eqb}
 use Rattle.rules.specs.declared.Content.{Content}
 use Rattle.rules.specs.declared.Content.TheVariants.{Live, Deleted}
 use Rattle.rules.specs.declared.Revision.{Revision}
-use Rattle.rules.specs.declared.Written.{Written}
 use Rattle.rules.specs.Bytes.{Bytes}
 use Rattle.rules.specs.Choice.{maybe, any, first_that}
 use Rattle.rules.specs.Map.{find}
@@ -60,7 +62,7 @@ line_members i v hs c =
 
 -- what they say
 unfoldable pub line_said : Id → Revision → List Hash → Content → Line
-line_said i v hs c = record { id = i; rev = v; revisions = some (record { start = v.number.0; ids = hs }); content = c }
+line_said i v hs c = record { id = i; rev = v; revisions = Some (record { start = v.number.0; ids = hs }); content = c }
 
 -- of a leaf
 unfoldable pub leaf_members : Id → Tree → LeafOf → Members
@@ -80,19 +82,19 @@ unfolding ancestry
 path_hashes t k zero v m = tt
 path_hashes t k (suc n) v m = (((k.revisions v m).bytes, (k.revisions v m).size), go (find order_rev v t) refl (λ p q. path_hashes t k n p q))
   where
-    up : (c : Node) → find order_rev v t ≡ some c → (o : Option Revision) → c.parent ≡ o → ((p : Revision) → Known t p → Hashes (ancestry n t p)) → Hashes (maybe [] (ancestry n t) o)
-    up c e none q ih = tt
-    up c e (some p) q ih = ih p (k.parents v p (c, e, q))
+    up : (c : Node) → find order_rev v t ≡ Some c → (o : Option Revision) → c.parent ≡ o → ((p : Revision) → Known t p → Hashes (ancestry n t p)) → Hashes (maybe [] (ancestry n t) o)
+    up c e None q ih = tt
+    up c e (Some p) q ih = ih p (k.parents v p (c, e, q))
 
     go : (o : Option Node) → find order_rev v t ≡ o → ((p : Revision) → Known t p → Hashes (ancestry n t p)) → Hashes (maybe [] (ancestry n t) (parent_in o))
-    go none e ih = tt
-    go (some c) e ih = up c e c.parent refl ih
+    go None e ih = tt
+    go (Some c) e ih = up c e c.parent refl ih
 
-path_first : (t : Tree) (v : Revision) → 1 ≤ v.number.0 → first_of (path_of t v) ≡ some v.hash
+path_first : (t : Tree) (v : Revision) → 1 ≤ v.number.0 → first_of (path_of t v) ≡ Some v.hash
 unfolding path_of ancestry
 path_first t v h = go v.number.0 h
   where
-    go : (n : ℕ) → 1 ≤ n → first_of (ancestry n t v) ≡ some v.hash
+    go : (n : ℕ) → 1 ≤ n → first_of (ancestry n t v) ≡ Some v.hash
     go zero h = absurd (omega arith)
     go (suc n) h = refl
 
@@ -144,38 +146,38 @@ but_last_lem [] = refl
 but_last_lem (c ∷ []) = refl
 but_last_lem (c ∷ d ∷ t) = ap (λ (l : List ℕ). c ∷ l) (but_last_lem (d ∷ t))
 
-pub unquote_quoted : (t : List ℕ) → unquote (quoted t) ≡ some t
+pub unquote_quoted : (t : List ℕ) → unquote (quoted t) ≡ Some t
 unfolding unquote quoted
-unquote_quoted t = ap some (but_last_lem t)
+unquote_quoted t = ap Some (but_last_lem t)
 
 module _ (A : Type 0) where
   string_said : {B : Type 0} (f : List ℕ → Option B) (t : List ℕ) → of_string {A = A} f (plain (quoted t)) ≡ f t
   unfolding of_string
   string_said f t = rw (unquote_quoted t) refl
 
-  ids_said : (hs : List Hash) → Hashes hs → each (of_string {A = A} read_hash) (ids_values hs) ≡ some hs
+  ids_said : (hs : List Hash) → Hashes hs → each (of_string {A = A} read_hash) (ids_values hs) ≡ Some hs
   unfolding each ids_values
   ids_said [] k = refl
   ids_said (h ∷ hs) k = rw (string_said read_hash (hex h), read_hex h k.0.0 k.0.1, ids_said hs k.1) refl
 
   revisions_said_lem : (n : ℕ) (hs : List Hash) → n ≤ number_most → Hashes hs
-      → read_revisions {A = A} (revisions_value n hs) ≡ some (record { start = n; ids = hs })
+      → read_revisions {A = A} (revisions_value n hs) ≡ Some (record { start = n; ids = hs })
   unfolding revisions_value read_revisions read_ids of_plain named is_name order_bytes order_n quoted text
   revisions_said_lem n hs h k = rw (read_decimal number_most n h (omega arith), ids_said hs k) refl
 
 line_said_lem : (i : Id) (v : Revision) (hs : List Hash) (c : Content) → IsRevision v → Hashes hs → IsContent c
-    → read_line (line_members i v hs c) ≡ some (line_said i v hs c)
+    → read_line (line_members i v hs c) ≡ Some (line_said i v hs c)
 unfolding read_line line_members line_said optional read_content read_label read_true of_plain content_member named is_name order_bytes order_n quoted text
 line_said_lem i v hs (Live n) k p h =
     rw (
-      string_said (Json 14) some i,
+      string_said (Json 14) Some i,
       string_said (Json 14) read_rev (rev_text v),
       read_rev_text v k.most k.bytes k.size,
       revisions_said_lem (Json 12) v.number.0 hs k.most p,
       read_decimal (pred labels) n (omega arith) (omega arith),
     ) refl
 line_said_lem i v hs Deleted k p h =
-    rw (string_said (Json 14) some i, string_said (Json 14) read_rev (rev_text v), read_rev_text v k.most k.bytes k.size, revisions_said_lem (Json 12) v.number.0 hs k.most p) refl
+    rw (string_said (Json 14) Some i, string_said (Json 14) read_rev (rev_text v), read_rev_text v k.most k.bytes k.size, revisions_said_lem (Json 12) v.number.0 hs k.most p) refl
 
 -- ---- a leaf that is put out
 
@@ -232,7 +234,7 @@ module _ (i : Id) (t : Tree) (k : IsTree t) (a : LeafOf) (m : In a (leaves t)) (
   )
 
   -- they say the leaf: id, number, path, content
-  pub put_said : read_line (leaf_members i t a) ≡ some (leaf_said i t a)
+  pub put_said : read_line (leaf_members i t a) ≡ Some (leaf_said i t a)
   unfolding leaf_members leaf_said
   put_said = line_said_lem i a.rev (path_of t a.rev) a.content is_rev are_hashes is_content
 
@@ -242,19 +244,19 @@ module _ (i : Id) (t : Tree) (k : IsTree t) (a : LeafOf) (m : In a (leaves t)) (
   said_offer = refl
 
   -- and none of 40 to 43 refuses it
-  pub put_unrefused : first_that (line_refusals (some (leaf_members i t a)) (some (leaf_said i t a))) ≡ none
+  pub put_unrefused : first_that (line_refusals (Some (leaf_members i t a)) (Some (leaf_said i t a))) ≡ None
   unfolding line_refusals first_that other_revisions leaf_said line_said
   put_unrefused =
       rw (eq-eqb a.rev.number.0 a.rev.number.0 refl, path_first t a.rev is_rev.least, order_bytes_self a.rev.hash, w) refl
 
-  pub put_taken : (r : Replica) → take_in r (some (leaf_members i t a)) ≡ write r (offer i t a)
+  pub put_taken : (r : Replica) → take_in r (Some (leaf_members i t a)) ≡ write r (offer i t a)
   unfolding take_in
   put_taken r = rw (put_said, put_unrefused, said_offer) refl
 
   -- "What we put out comes back as the same write": whatever replica it is taken into, and nothing else
-  pub put_comes_back : (r : Replica) (o : Written × Replica) → TakesIn r (leaf_line i t a) o → o ≡ write r (offer i t a)
+  pub put_comes_back : (r : Replica) (o : Result Outcome Refusal × Replica) → TakesIn r (leaf_line i t a) o → o ≡ write r (offer i t a)
   put_comes_back r o x =
-      x.is ∙ (ap (take_in r) (holds_one (leaf_line i t a) x.members (some (leaf_members i t a)) x.holds put_holds) ∙ put_taken r)
+      x.is ∙ (ap (take_in r) (holds_one (leaf_line i t a) x.members (Some (leaf_members i t a)) x.holds put_holds) ∙ put_taken r)
 
   pub put_takes : (r : Replica) → TakesIn r (leaf_line i t a) (write r (offer i t a))
-  put_takes r = record { members = some (leaf_members i t a); holds = put_holds; is = sym (put_taken r) }
+  put_takes r = record { members = Some (leaf_members i t a); holds = put_holds; is = sym (put_taken r) }

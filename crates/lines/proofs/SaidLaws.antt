@@ -3,7 +3,7 @@ use mathlib.Core.Path.{◌≡◌, refl, sym, ap, ◌∙◌}
 use mathlib.Core.Bool.{Bool, true, false, not, ◌&&◌, ◌||◌, true≢false}
 use mathlib.Core.List.{List, [], ◌∷◌, ◌++◌}
 use mathlib.Core.Logic.{◌⊎◌, inl, inr}
-use mathlib.Core.Option.{none, some}
+use Rattle.std.specs.Prelude.{None, Some}
 use Prim.Native.Nat.{ℕ, zero, suc, ◌+◌, ◌*◌, ◌-◌, ◌/◌, ◌%◌, ◌^◌, ◌≤◌, ◌<◌}
 use native.Mathlib.Nat.{pow-suc}
 use native.Mathlib.Omega.{arith}
@@ -43,12 +43,12 @@ module _ {A : Type 0} (p : A → Bool) where
 
 -- ---- what was read
 
-some_pick : {A : Type 0} (b : Bool) {x y : A} → pick b (some x) none ≡ some y → (b ≡ true) × (x ≡ y)
+some_pick : {A : Type 0} (b : Bool) {x y : A} → pick b (Some x) None ≡ Some y → (b ≡ true) × (x ≡ y)
 some_pick true e = (refl, some_inj e)
 some_pick false e = absurd (none≢some e)
 
 -- a number that was read is within its field
-pub number_most_lem : (most : ℕ) (t : List ℕ) {n : ℕ} → read_number most t ≡ some n → n ≤ most
+pub number_most_lem : (most : ℕ) (t : List ℕ) {n : ℕ} → read_number most t ≡ Some n → n ≤ most
 unfolding read_number
 number_most_lem most t {n} e =
     let p = some_pick (not (is_empty t) && (all is_digit t && (not (spare_zero t) && leb (decimal_value t) most))) e in
@@ -59,7 +59,7 @@ number_most_lem most t {n} e =
     omega arith
 
 -- a hash that was read is 32 hex digits
-pub hash_is : (t : List ℕ) {h : Hash} → read_hash t ≡ some h → (length t ≡ hash_size + hash_size) × ((all is_hex_digit t ≡ true) × (hex_value t ≡ h))
+pub hash_is : (t : List ℕ) {h : Hash} → read_hash t ≡ Some h → (length t ≡ hash_size + hash_size) × ((all is_hex_digit t ≡ true) × (hex_value t ≡ h))
 unfolding read_hash
 hash_is t e =
     let p = some_pick (eqb (length t) (hash_size + hash_size) && all is_hex_digit t) e in
@@ -74,7 +74,7 @@ length-hex_value n (c ∷ []) e = absurd (omega arith)
 length-hex_value zero (c ∷ d ∷ t) e = absurd (omega arith)
 length-hex_value (suc n) (c ∷ d ∷ t) e = ap suc (length-hex_value n t (omega arith))
 
-pub hash_size_lem : (t : List ℕ) {h : Hash} → read_hash t ≡ some h → length h ≡ hash_size
+pub hash_size_lem : (t : List ℕ) {h : Hash} → read_hash t ≡ Some h → length h ≡ hash_size
 hash_size_lem t e = let p = hash_is t e in ap length (sym p.1.1) ∙ length-hex_value hash_size t p.0
 
 -- the value of a hex digit is below 16
@@ -113,7 +113,7 @@ bytes_hex_value (c ∷ d ∷ t) e =
     let b = hex_value_small d (and_left (is_hex_digit d) (all is_hex_digit t) m) in
     (omega arith, bytes_hex_value t (and_right (is_hex_digit d) (all is_hex_digit t) m))
 
-pub hash_bytes : (t : List ℕ) {h : Hash} → read_hash t ≡ some h → Bytes h
+pub hash_bytes : (t : List ℕ) {h : Hash} → read_hash t ≡ Some h → Bytes h
 hash_bytes t e = let p = hash_is t e in rw (sym p.1.1) (bytes_hex_value t p.1.0)
 
 -- ---- decimal numbers read back
@@ -199,7 +199,7 @@ digits_some n v = go (digits n (v / 10))
     go (x ∷ l) = omega arith
 
 -- a number of at most n + 1 digits
-read_digits : (n most v : ℕ) → v ≤ most → v < 10 ^ suc n → read_number most (trim (digits (suc n) v)) ≡ some v
+read_digits : (n most v : ℕ) → v ≤ most → v < 10 ^ suc n → read_number most (trim (digits (suc n) v)) ≡ Some v
 unfolding read_number decimal_value
 read_digits n most v h k =
     let l : List ℕ = digits (suc n) v in
@@ -209,7 +209,7 @@ read_digits n most v h k =
     let w : decimal_from 0 (trim l) ≡ v = value_trim l ∙ value_digits (suc n) v k in
     rw (e, a, s, w, le-leb v most h) refl
 
-pub read_decimal : (most v : ℕ) → v ≤ most → v < 10 ^ 20 → read_number most (decimal v) ≡ some v
+pub read_decimal : (most v : ℕ) → v ≤ most → v < 10 ^ 20 → read_number most (decimal v) ≡ Some v
 unfolding decimal
 read_decimal most v h k = read_digits 19 most v h k
 
@@ -266,7 +266,7 @@ unfolding hex
 length_of_hex [] = refl
 length_of_hex (b ∷ h) = let e = length_of_hex h in omega arith
 
-pub read_hex : (h : Hash) → Bytes h → length h ≡ hash_size → read_hash (hex h) ≡ some h
+pub read_hex : (h : Hash) → Bytes h → length h ≡ hash_size → read_hash (hex h) ≡ Some h
 unfolding read_hash
 read_hex h p n =
     let l : length (hex h) ≡ hash_size + hash_size = let e = length_of_hex h in omega arith in
@@ -290,7 +290,7 @@ after_dash_lem [] b e = refl
 after_dash_lem (c ∷ a) b e =
     rw (digit_no_dash c (and_left (is_digit c) (all is_digit a) e)) (after_dash_lem a b (and_right (is_digit c) (all is_digit a) e))
 
-pub read_rev_text : (v : Revision) → v.number.0 ≤ number_most → Bytes v.hash → length v.hash ≡ hash_size → read_rev (rev_text v) ≡ some v
+pub read_rev_text : (v : Revision) → v.number.0 ≤ number_most → Bytes v.hash → length v.hash ≡ hash_size → read_rev (rev_text v) ≡ Some v
 unfolding read_rev rev_text text
 read_rev_text v m p n =
     let d = decimal_digits v.number.0 in

@@ -3,7 +3,7 @@ use mathlib.Core.Path.{◌≡◌, refl, ap}
 use mathlib.Core.Bool.{Bool, true, false, not, ◌&&◌, ◌||◌, true≢false}
 use mathlib.Core.List.{List, [], ◌∷◌, ◌++◌, append_assoc}
 use mathlib.Core.Logic.{◌⊎◌, inl, inr}
-use mathlib.Core.Option.{none, some}
+use Rattle.std.specs.Prelude.{None, Some}
 use Prim.Native.Nat.{ℕ, ◌≤◌, ◌<◌}
 use native.Mathlib.Omega.{arith}
 use lib.Dec.{eqb, leb}
@@ -138,18 +138,18 @@ record Digits (t : List ℕ) : Type 0 where
   digits : all is_digit t ≡ true
   tight : spare_zero t ≡ false
 
-number_digits : (most : ℕ) (t : List ℕ) (v : ℕ) → read_number most t ≡ some v → Digits t
+number_digits : (most : ℕ) (t : List ℕ) (v : ℕ) → read_number most t ≡ Some v → Digits t
 unfolding read_number
 number_digits most t v e = go (is_empty t) refl (all is_digit t) refl (spare_zero t) refl (leb (decimal_value t) most) e
   where
     go : (p : Bool) → is_empty t ≡ p → (q : Bool) → all is_digit t ≡ q → (z : Bool) → spare_zero t ≡ z → (l : Bool)
-        → pick (not p && (q && (not z && l))) (some (decimal_value t)) none ≡ some v → Digits t
+        → pick (not p && (q && (not z && l))) (Some (decimal_value t)) None ≡ Some v → Digits t
     go true ep q eq z ez l e = absurd (none≢some e)
     go false ep false eq z ez l e = absurd (none≢some e)
     go false ep true eq true ez l e = absurd (none≢some e)
     go false ep true eq false ez l e = record { filled = ep; digits = eq; tight = ez }
 
-pub number_writable : (most : ℕ) (t : List ℕ) (v : ℕ) → read_number most t ≡ some v → unwritable t ≡ false
+pub number_writable : (most : ℕ) (t : List ℕ) (v : ℕ) → read_number most t ≡ Some v → unwritable t ≡ false
 number_writable most t v e = all_writable is_digit digit_writable t (number_digits most t v e).digits
 
 many_digit : (t b : List ℕ) → all is_digit t ≡ true → many digit (t ++ b) b
@@ -178,16 +178,16 @@ digits_int (c ∷ t) b d = go (eqb c 48) refl t d.digits d.tight
             by (inl x) = absurd (n (omega arith))
             by (inr x) = x
 
-pub number_scalar : (most : ℕ) (t : List ℕ) (v : ℕ) → read_number most t ≡ some v → (b : List ℕ) → spelt scalar t (t ++ b) b
+pub number_scalar : (most : ℕ) (t : List ℕ) (v : ℕ) → read_number most t ≡ Some v → (b : List ℕ) → spelt scalar t (t ++ b) b
 unfolding spelt scalar ◌or◌ number ◌then◌ option
 number_scalar most t v e b =
     (inr (inl (t ++ b, (inl refl, (b, (digits_int t b (number_digits most t v e), (b, (inl refl, inl refl))))))), refl)
 
-pub hash_writable : (t h : List ℕ) → read_hash t ≡ some h → unwritable t ≡ false
+pub hash_writable : (t h : List ℕ) → read_hash t ≡ Some h → unwritable t ≡ false
 unfolding read_hash
 hash_writable t h e = go (eqb (length t) 32) (all is_hex_digit t) refl e
   where
-    go : (p q : Bool) → all is_hex_digit t ≡ q → pick (p && q) (some (hex_value t)) none ≡ some h → unwritable t ≡ false
+    go : (p q : Bool) → all is_hex_digit t ≡ q → pick (p && q) (Some (hex_value t)) None ≡ Some h → unwritable t ≡ false
     go false q eq e = absurd (none≢some e)
     go true false eq e = absurd (none≢some e)
     go true true eq e = all_writable is_hex_digit hex_writable t eq

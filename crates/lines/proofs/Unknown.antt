@@ -1,16 +1,16 @@
 -- "Unknown members are passed over whatever they hold", spaces make no difference, and 40 is answered exactly where the bytes are no such text. Assumes nothing.
 use mathlib.Core.Path.{◌≡◌, refl, sym, ap, ◌∙◌}
+use Rattle.rules.specs.declared.Outcome.{Outcome}
+use Rattle.std.specs.Prelude.{Result, Ok, Err}
 use mathlib.Core.Bool.{Bool, true, false}
 use mathlib.Core.List.{List, [], ◌∷◌, ◌++◌}
 use mathlib.Core.Logic.{inl, inr, ◌↔◌}
-use mathlib.Core.Option.{Option, none, some}
+use Rattle.std.specs.Prelude.{Option, None, Some}
 use Prim.Native.Nat.{ℕ, ◌<◌}
 use Prim.Native.String.{String}
 use native.Mathlib.Omega.{arith}
 use Rattle.rules.specs.declared.Refusal.{Refusal}
 use Rattle.rules.specs.declared.Refusal.TheVariants.{NotJson, BadMember, OtherRevisions, UnwritableId}
-use Rattle.rules.specs.declared.Written.{Written}
-use Rattle.rules.specs.declared.Written.TheVariants.{Accepted, Refused}
 use Rattle.rules.specs.Choice.{pick, maybe, first_that}
 use Rattle.rules.specs.Refusal.{refusal_number}
 use Rattle.rules.specs.Replica.{Replica}
@@ -41,7 +41,7 @@ pub same_said : (ms ns : Members) → SameNamed ms ns → read_line ms ≡ read_
 unfolding read_line
 same_said ms ns e = rw (e.id, e.rev, e.revisions, e.deleted, e.label) refl
 
-pub same_taken : (r : Replica) (ms ns : Members) → SameNamed ms ns → take_in r (some ms) ≡ take_in r (some ns)
+pub same_taken : (r : Replica) (ms ns : Members) → SameNamed ms ns → take_in r (Some ms) ≡ take_in r (Some ns)
 unfolding take_in line_refusals
 same_taken r ms ns e = rw (same_said ms ns e) refl
 
@@ -102,24 +102,24 @@ ours_without (x ∷ before) after m e = ap (λ (l : List _). pick (is_ours x.0) 
 -- texts of which the members with our names are the same have one outcome: unknown members put in, taken
 -- out or changed, and spaces, make no difference
 pub unknown_passed : (r : Replica) (s t : List ℕ) (ms ns : Members) → line_of ms s → line_of ns t → ours ms ≡ ours ns
-    → (o p : Written × Replica) → TakesIn r s o → TakesIn r t p → o ≡ p
+    → (o p : Result Outcome Refusal × Replica) → TakesIn r s o → TakesIn r t p → o ≡ p
 unknown_passed r s t ms ns h k e o p x y =
     x.is
-    ∙ (ap (take_in r) (holds_one s x.members (some ms) x.holds h)
-    ∙ (same_taken r ms ns (same_ours ms ns e) ∙ (ap (take_in r) (holds_one t (some ns) y.members k y.holds) ∙ sym y.is)))
+    ∙ (ap (take_in r) (holds_one s x.members (Some ms) x.holds h)
+    ∙ (same_taken r ms ns (same_ours ms ns e) ∙ (ap (take_in r) (holds_one t (Some ns) y.members k y.holds) ∙ sym y.is)))
 
 -- with other spaces
-pub spaces_passed : (r : Replica) (s t : List ℕ) (ms : Members) → line_of ms s → line_of ms t → (o p : Written × Replica) → TakesIn r s o → TakesIn r t p → o ≡ p
+pub spaces_passed : (r : Replica) (s t : List ℕ) (ms : Members) → line_of ms s → line_of ms t → (o p : Result Outcome Refusal × Replica) → TakesIn r s o → TakesIn r t p → o ≡ p
 spaces_passed r s t ms h k = unknown_passed r s t ms ms h k refl
 
 -- with an unknown member put in (or, read backwards, taken out)
 pub unknown_put_in : (r : Replica) (s t : List ℕ) (before after : Members) (m : List ℕ × Json 15) → is_ours m.0 ≡ false
-    → line_of (before ++ after) s → line_of (before ++ (m ∷ after)) t → (o p : Written × Replica) → TakesIn r s o → TakesIn r t p → o ≡ p
+    → line_of (before ++ after) s → line_of (before ++ (m ∷ after)) t → (o p : Result Outcome Refusal × Replica) → TakesIn r s o → TakesIn r t p → o ≡ p
 unknown_put_in r s t before after m e h k = unknown_passed r s t (before ++ after) (before ++ (m ∷ after)) h k (sym (ours_without before after m e))
 
 -- with an unknown member changed
 pub unknown_changed : (r : Replica) (s t : List ℕ) (before after : Members) (m n : List ℕ × Json 15) → is_ours m.0 ≡ false → is_ours n.0 ≡ false
-    → line_of (before ++ (m ∷ after)) s → line_of (before ++ (n ∷ after)) t → (o p : Written × Replica) → TakesIn r s o → TakesIn r t p → o ≡ p
+    → line_of (before ++ (m ∷ after)) s → line_of (before ++ (n ∷ after)) t → (o p : Result Outcome Refusal × Replica) → TakesIn r s o → TakesIn r t p → o ≡ p
 unknown_changed r s t before after m n e f h k =
     unknown_passed r s t (before ++ (m ∷ after)) (before ++ (n ∷ after)) h k (ours_without before after m e ∙ sym (ours_without before after n f))
 
@@ -129,7 +129,7 @@ unknown_changed r s t before after m n e f h k =
 small : (b : Bool) (n : Refusal) → ◌≡◌ {A = Bool × Refusal} (true, NotJson) (b, n) → refusal_number n < 40 → ⊥
 small b n e h = let q : 40 ≡ refusal_number n = ap (λ (z : Bool × Refusal). refusal_number z.1) e in omega arith
 
-write_json : (r : Replica) (w : Write) → (write r w).0 ≡ Refused NotJson → ⊥
+write_json : (r : Replica) (w : Write) → (write r w).0 ≡ Err NotJson → ⊥
 unfolding write_refusals room_refusals
 write_json r w e = go (first_holds (write_refusals r w) NotJson (refused_by r w NotJson e))
   where
@@ -144,33 +144,33 @@ write_json r w e = go (first_holds (write_refusals r w) NotJson (refused_by r w 
     go (inr (inr (inr (inr (inr (inr (inr (inl q)))))))) = small _ _ q (omega arith)
     go (inr (inr (inr (inr (inr (inr (inr (inr z)))))))) = z
 
-not_40 : (n : Refusal) → (40 < refusal_number n) → ◌≡◌ {A = Written} (Refused n) (Refused NotJson) → ⊥
+not_40 : (n : Refusal) → (40 < refusal_number n) → ◌≡◌ {A = Result Outcome Refusal} (Err n) (Err NotJson) → ⊥
 not_40 n h e = let q : refusal_number n ≡ 40 = ap number e in omega arith
   where
-    number : Written → ℕ
-    number (Accepted o) = 0
-    number (Refused n) = refusal_number n
+    number : Result Outcome Refusal → ℕ
+    number (Ok o) = 0
+    number (Err n) = refusal_number n
 
-some_json : (r : Replica) (ms : Members) → (take_in r (some ms)).0 ≡ Refused NotJson → ⊥
+some_json : (r : Replica) (ms : Members) → (take_in r (Some ms)).0 ≡ Err NotJson → ⊥
 unfolding take_in line_refusals first_that
 some_json r ms e = go (read_line ms) e
   where
     go : (l : Option Line)
-        → (settle Refused r (maybe (Refused BadMember, r) (λ x. write r (as_write x)) l) (first_that (line_refusals (some ms) l))).0 ≡ Refused NotJson → ⊥
-    go none e = not_40 BadMember (omega arith) e
-    go (some x) e = by (maybe false (other_revisions x.rev) x.revisions) (unwritable x.id) e
+        → (settle Err r (maybe (Err BadMember, r) (λ x. write r (as_write x)) l) (first_that (line_refusals (Some ms) l))).0 ≡ Err NotJson → ⊥
+    go None e = not_40 BadMember (omega arith) e
+    go (Some x) e = by (maybe false (other_revisions x.rev) x.revisions) (unwritable x.id) e
       where
         by : (p q : Bool)
-            → (settle Refused r (write r (as_write x)) (pick p (some OtherRevisions) (pick q (some UnwritableId) none))).0 ≡ Refused NotJson → ⊥
+            → (settle Err r (write r (as_write x)) (pick p (Some OtherRevisions) (pick q (Some UnwritableId) None))).0 ≡ Err NotJson → ⊥
         by true q e = not_40 OtherRevisions (omega arith) e
         by false true e = not_40 UnwritableId (omega arith) e
         by false false e = write_json r (as_write x) e
 
 -- "40 not one UTF-8 JSON object (RFC 8259) or too deep": answered exactly where the bytes are no such text
-pub forty_exactly : (r : Replica) (s : List ℕ) (o : Written × Replica) → TakesIn r s o → (o.0 ≡ Refused NotJson) ↔ (line s [] → ⊥)
+pub forty_exactly : (r : Replica) (s : List ℕ) (o : Result Outcome Refusal × Replica) → TakesIn r s o → (o.0 ≡ Err NotJson) ↔ (line s [] → ⊥)
 unfolding take_in line_refusals first_that
 forty_exactly r s o t = go t.members t.holds t.is
   where
-    go : (m : Option Members) → Holds s m → o ≡ take_in r m → (o.0 ≡ Refused NotJson) ↔ (line s [] → ⊥)
-    go none h e = (λ q. h, λ q. ap (λ (z : Written × Replica). z.0) e)
-    go (some ms) h e = (λ q. absurd (some_json r ms (ap (λ (z : Written × Replica). z.0) (sym e) ∙ q)), λ q. absurd (q (reads_rfc ms s h)))
+    go : (m : Option Members) → Holds s m → o ≡ take_in r m → (o.0 ≡ Err NotJson) ↔ (line s [] → ⊥)
+    go None h e = (λ q. h, λ q. ap (λ (z : Result Outcome Refusal × Replica). z.0) e)
+    go (Some ms) h e = (λ q. absurd (some_json r ms (ap (λ (z : Result Outcome Refusal × Replica). z.0) (sym e) ∙ q)), λ q. absurd (q (reads_rfc ms s h)))

@@ -1,11 +1,12 @@
 -- A whole replica put out and taken in: into a fresh one it leaves the union of what was held, into itself it changes nothing. Assumes nothing.
 use mathlib.Core.Path.{◌≡◌, refl, sym, ap, ap₂, ◌∙◌, subst}
+use Rattle.rules.specs.declared.Refusal.{Refusal}
+use Rattle.rules.specs.declared.Outcome.{Outcome}
+use Rattle.std.specs.Prelude.{Result, Ok}
 use mathlib.Core.List.{List, [], ◌∷◌}
 use mathlib.Core.Logic.{◌⊎◌, inl, inr, ◌↔◌}
 use Prim.Native.Nat.{ℕ}
 use Rattle.rules.specs.declared.Outcome.TheVariants.{Unchanged}
-use Rattle.rules.specs.declared.Written.{Written}
-use Rattle.rules.specs.declared.Written.TheVariants.{Accepted}
 use Rattle.rules.specs.Bytes.{join}
 use Rattle.rules.specs.Pull.{offer, offers_of, offers_in}
 use Rattle.rules.specs.Read.{LeafOf, leaves}
@@ -48,14 +49,14 @@ lines_in_lem (x ∷ ds) d l (inl q) n = in_left l (lines_of x) (lines_in ds) (su
 lines_in_lem (x ∷ ds) d l (inr m) n = in_right l (lines_of x) (lines_in ds) (lines_in_lem ds d l m n)
 
 -- the answers of accepted writes
-all_accepted : (ws : List Write) (r : Replica) → AllAccepted ws r → (x : Written) → In x (answers r ws) → IsAccepted x
+all_accepted : (ws : List Write) (r : Replica) → AllAccepted ws r → (x : Result Outcome Refusal) → In x (answers r ws) → IsAccepted x
 unfolding answers
 all_accepted [] r h x m = absurd m
 all_accepted (w ∷ ws) r h x (inl q) = subst IsAccepted (sym q) h.0
 all_accepted (w ∷ ws) r h x (inr m) = all_accepted ws (write r w).1 h.1 x m
 
 -- writes that change nothing
-all_unchanged : (ws : List Write) (r : Replica) → ((w : Write) → In w ws → write r w ≡ (Accepted Unchanged, r)) → Stayed r (answers r ws) (write_all ws r)
+all_unchanged : (ws : List Write) (r : Replica) → ((w : Write) → In w ws → write r w ≡ (Ok Unchanged, r)) → Stayed r (answers r ws) (write_all ws r)
 unfolding answers write_all
 all_unchanged [] r h = record { unchanged = λ x m. absurd m; same = refl }
 all_unchanged (w ∷ ws) r h =
@@ -97,7 +98,7 @@ module _ (r : Replica) (k : IsReplica r) (ids : AllWritable r) where
         lines_in_lem r.documents u.0 _ u.1 (in_map (leaf_line u.0.0 u.0.1.tree) a.0 (leaves u.0.1.tree) a.1),
       )
 
-  line_taken : (l : List ℕ) (w : Write) → IsLine l w → (s : Replica) (o : Written × Replica) → TakesIn s l o → o ≡ write s w
+  line_taken : (l : List ℕ) (w : Write) → IsLine l w → (s : Replica) (o : Result Outcome Refusal × Replica) → TakesIn s l o → o ≡ write s w
   line_taken l w x s o t =
       let d = x.document in
       put_comes_back d.0 d.1.tree (has_document r k d x.in_replica).tree x.leaf x.in_document (ids d x.in_replica) s o
@@ -149,7 +150,7 @@ module _ (r : Replica) (k : IsReplica r) (ids : AllWritable r) where
       let y = is_line n (f n (inl refl)) in inl (line_once n w y.0 (subst (λ (z : List ℕ). IsLine z w) q x) y.1)
   for_in (n ∷ ls) f l w (inr m) x = inr (for_in ls (λ n i. f n (inr i)) l w m x)
 
-  all_taken : (ls : List (List ℕ)) (f : (l : List ℕ) → In l ls → In l (lines_in r.documents)) (s : Replica) (xs : List Written) (left : Replica)
+  all_taken : (ls : List (List ℕ)) (f : (l : List ℕ) → In l ls → In l (lines_in r.documents)) (s : Replica) (xs : List (Result Outcome Refusal)) (left : Replica)
       → TakesAll s ls xs left → (xs ≡ answers s (offers_for ls f)) × (left ≡ write_all (offers_for ls f) s)
   unfolding offers_for answers write_all
   all_taken [] f s [] left t = (refl, t)
@@ -157,9 +158,9 @@ module _ (r : Replica) (k : IsReplica r) (ids : AllWritable r) where
   all_taken (l ∷ ls) f s [] left t = absurd t
   all_taken (l ∷ ls) f s (x ∷ xs) left t =
       let y = is_line l (f l (inl refl)) in
-      let e : ◌≡◌ {A = Written × Replica} (x, t.0) (write s y.0) = line_taken l y.0 y.1 s (x, t.0) t.1 in
-      let a : x ≡ (write s y.0).0 = ap (λ (z : Written × Replica). z.0) e in
-      let b : t.0 ≡ (write s y.0).1 = ap (λ (z : Written × Replica). z.1) e in
+      let e : ◌≡◌ {A = Result Outcome Refusal × Replica} (x, t.0) (write s y.0) = line_taken l y.0 y.1 s (x, t.0) t.1 in
+      let a : x ≡ (write s y.0).0 = ap (λ (z : Result Outcome Refusal × Replica). z.0) e in
+      let b : t.0 ≡ (write s y.0).1 = ap (λ (z : Result Outcome Refusal × Replica). z.1) e in
       let rest = all_taken ls (λ n i. f n (inr i)) (write s y.0).1 xs left (subst (λ (m : Replica). TakesAll m ls xs left) b t.2) in
       (ap₂ ◌∷◌ a rest.0, rest.1)
 
@@ -172,15 +173,15 @@ module _ (r : Replica) (k : IsReplica r) (ids : AllWritable r) where
 
   -- lines of the replica can be taken into any
   pub whole_takes : (ls : List (List ℕ)) → ((l : List ℕ) → In l ls → In l (lines_in r.documents))
-      → (s : Replica) → (xs : List Written) × (left : Replica) × TakesAll s ls xs left
+      → (s : Replica) → (xs : List (Result Outcome Refusal)) × (left : Replica) × TakesAll s ls xs left
   whole_takes ls f s = (answers s (offers_for ls f), write_all (offers_for ls f) s, all_takes ls f s)
 
   -- a whole replica put out and taken into a fresh one leaves exactly the union of what it held, in
   -- whatever order its lines come and with any repeats
   pub whole_copied : (ls : List (List ℕ)) → ((l : List ℕ) → In l ls ↔ In l (lines_in r.documents))
-      → (xs : List Written) (left : Replica) → TakesAll fresh ls xs left → Copied r xs left
+      → (xs : List (Result Outcome Refusal)) (left : Replica) → TakesAll fresh ls xs left → Copied r xs left
   whole_copied ls h xs left t = record {
-    accepted = λ x m. all_accepted ws fresh u.0 x (subst (λ (z : List Written). In x z) a.0 m);
+    accepted = λ x m. all_accepted ws fresh u.0 x (subst (λ (z : List (Result Outcome Refusal)). In x z) a.0 m);
     union = subst (λ (z : Replica). IsUnion z (held r)) (sym a.1) holds;
     same = subst (λ (z : Replica). SameButSeq z r) (sym a.1)
         (one_union (write_all ws fresh) r (held r) (made ws formed) k holds (union r (Own r) (holds_own r k) (closed_own r k)));
@@ -213,8 +214,8 @@ module _ (r : Replica) (k : IsReplica r) (ids : AllWritable r) where
 
   -- taken into the replica itself, it changes nothing
   pub whole_stays : (ls : List (List ℕ)) → ((l : List ℕ) → In l ls → In l (lines_in r.documents))
-      → (xs : List Written) (left : Replica) → TakesAll r ls xs left → Stayed r xs left
+      → (xs : List (Result Outcome Refusal)) (left : Replica) → TakesAll r ls xs left → Stayed r xs left
   whole_stays ls f xs left t =
       let a = all_taken ls f r xs left t in
       let s = all_unchanged (offers_for ls f) r (λ w m. own_unchanged r k w (for_out ls f w m)) in
-      record { unchanged = λ x m. s.unchanged x (subst (λ (z : List Written). In x z) a.0 m); same = a.1 ∙ s.same }
+      record { unchanged = λ x m. s.unchanged x (subst (λ (z : List (Result Outcome Refusal)). In x z) a.0 m); same = a.1 ∙ s.same }

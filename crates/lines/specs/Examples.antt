@@ -1,7 +1,9 @@
 -- Lines in and out, as one table of data beside the fourteen.
 use Rattle.std.specs.Prelude.{List, [], ◌∷◌, ◌++◌, ◌≡◌, ℕ}
+use Rattle.rules.specs.declared.Refusal.{Refusal}
+use Rattle.rules.specs.declared.Outcome.{Outcome}
+use Rattle.std.specs.Prelude.{Result}
 use Prim.Native.String.{String}
-use Rattle.rules.specs.declared.Written.{Written}
 use Rattle.rules.specs.Answer.{Numbered, refused, written_number}
 use Rattle.rules.specs.Examples.{lot, changed, unchanged}
 use Rattle.rules.specs.Replica.{Replica, tree_of}
@@ -23,7 +25,7 @@ pub data Step : Type 0 where
 -- the steps one after the other, each as the table says; a line has no other outcome (`TakesLaws.takes_one`)
 abbrev pub Goes : Replica → List Step → Type 0
 Goes r [] = Unit {0}
-Goes r (takes l n ∷ steps) = (o : Written × Replica) × TakesIn r (texts l) o × (written_number o.0 ≡ n) × Goes o.1 steps
+Goes r (takes l n ∷ steps) = (o : Result Outcome Refusal × Replica) × TakesIn r (texts l) o × (written_number o.0 ≡ n) × Goes o.1 steps
 Goes r (puts t ∷ steps) = (lines_text lot (tree_of r lot) ≡ texts t) × Goes r steps
 
 -- the hashes of 01's cases: "its first byte, the rest zeros"

@@ -1,7 +1,6 @@
 -- "put a document's leaves out so, a line each, highest first, without spaces, in the order just named".
 use Rattle.std.specs.Prelude.{Bool, List, [], ◌∷◌, ◌++◌, map, ℕ, length}
-use Rattle.rules.specs.declared.Answered.{Answered}
-use Rattle.rules.specs.declared.Answered.TheVariants as answered
+use Rattle.std.specs.Prelude.{Result, Ok, Err}
 use Rattle.rules.specs.declared.Content.{Content}
 use Rattle.rules.specs.declared.Content.TheVariants.{Live, Deleted}
 use Rattle.rules.specs.declared.Refusal.{Refusal}
@@ -63,10 +62,10 @@ lines_text i t = join (map (leaf_line i t) (leaves t))
 unfoldable pub put_refusals : Replica → Id → List (Bool × Refusal)
 put_refusals r i = document_refusals r i ++ ((unwritable i, UnwritableId) ∷ [])
 
-unfoldable pub put_out : Replica → Id → List ℕ → Answered × List ℕ
+unfoldable pub put_out : Replica → Id → List ℕ → Result ℕ Refusal × List ℕ
 put_out r i out = let bytes = lines_text i (tree_of r i) in reads (put_refusals r i) (length bytes) bytes out
 
 -- how many bytes that would be: 14 is never met, since nothing is lent
-unfoldable pub put_out_size : Replica → Id → Answered
+unfoldable pub put_out_size : Replica → Id → Result ℕ Refusal
 put_out_size r i =
-    maybe (answered.Count (length (lines_text i (tree_of r i)))) answered.Refused (first_that (put_refusals r i))
+    maybe (Ok (length (lines_text i (tree_of r i)))) Err (first_that (put_refusals r i))

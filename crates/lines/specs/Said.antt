@@ -1,6 +1,6 @@
 -- What the texts of a line's members say: names, numbers, hashes, revisions. None of them is decoded.
 use Rattle.std.specs.Prelude.{Bool, true, false, not, ◌&&◌, ◌||◌, List, [], ◌∷◌, ◌++◌, ℕ, ◌+◌, ◌*◌, ◌-◌, eqb, leb, length}
-use Rattle.std.proofs.Math.Option.{Option, none, some}
+use Rattle.std.specs.Prelude.{Option, None, Some}
 use Prim.Native.String.{String}
 use Rattle.rules.specs.declared.Revision.{Revision}
 use Rattle.rules.specs.Choice.{pick, maybe}
@@ -14,13 +14,13 @@ use Rattle.json_text.specs.Members.{Form, plain, object, array}
 
 -- f of both where both are there
 abbrev pub both : {A B C : Type 0} → (A → B → C) → Option A → Option B → Option C
-both f none b = none
-both f (some a) none = none
-both f (some a) (some b) = some (f a b)
+both f None b = None
+both f (Some a) None = None
+both f (Some a) (Some b) = Some (f a b)
 
 -- what f gives for each, where it gives something for all
 unfoldable pub each : {A B : Type 0} → (A → Option B) → List A → Option (List B)
-each f [] = some []
+each f [] = Some []
 each f (a ∷ more) = both ◌∷◌ (f a) (each f more)
 
 unfoldable pub all : {A : Type 0} → (A → Bool) → List A → Bool
@@ -29,9 +29,9 @@ all p (a ∷ more) = p a && all p more
 
 -- neither "absent" nor "repeated"
 abbrev pub once : {A : Type 0} → List A → Option A
-once [] = none
-once (a ∷ []) = some a
-once (a ∷ b ∷ more) = none
+once [] = None
+once (a ∷ []) = Some a
+once (a ∷ b ∷ more) = None
 
 -- ---- strings
 
@@ -49,21 +49,21 @@ but_last (c ∷ d ∷ t) = c ∷ but_last (d ∷ t)
 
 -- of a string's text, what stands between its quotation marks
 unfoldable pub unquote : List ℕ → Option (List ℕ)
-unquote [] = none
-unquote (c ∷ t) = pick (eqb c quote) (some (but_last t)) none
+unquote [] = None
+unquote (c ∷ t) = pick (eqb c quote) (Some (but_last t)) None
 
 -- the text of a value that is neither an object nor an array
 abbrev pub plain_text : {A : Type 0} → Form A → Option (List ℕ)
-plain_text (plain t) = some t
-plain_text (object ms) = none
-plain_text (array vs) = none
+plain_text (plain t) = Some t
+plain_text (object ms) = None
+plain_text (array vs) = None
 
 -- what f makes of a string's text, and of another plain one's
 unfoldable pub of_string : {A B : Type 0} → (List ℕ → Option B) → Form A → Option B
-of_string f j = maybe none (λ t. maybe none f (unquote t)) (plain_text j)
+of_string f j = maybe None (λ t. maybe None f (unquote t)) (plain_text j)
 
 unfoldable pub of_plain : {A B : Type 0} → (List ℕ → Option B) → Form A → Option B
-of_plain f j = maybe none f (plain_text j)
+of_plain f j = maybe None f (plain_text j)
 
 -- ---- names
 
@@ -100,8 +100,8 @@ spare_zero (c ∷ t) = eqb c 48 && not (is_empty t)
 unfoldable pub read_number : ℕ → List ℕ → Option ℕ
 read_number most t =
     pick (not (is_empty t) && (all is_digit t && (not (spare_zero t) && leb (decimal_value t) most)))
-    (some (decimal_value t))
-    none
+    (Some (decimal_value t))
+    None
 
 -- ---- hashes
 
@@ -119,7 +119,7 @@ hex_value (c ∷ d ∷ t) = (hex_digit_value c * 16 + hex_digit_value d) ∷ hex
 
 -- "Hashes are 32 lower-case hex digits"
 unfoldable pub read_hash : List ℕ → Option Hash
-read_hash t = pick (eqb (length t) (hash_size + hash_size) && all is_hex_digit t) (some (hex_value t)) none
+read_hash t = pick (eqb (length t) (hash_size + hash_size) && all is_hex_digit t) (Some (hex_value t)) None
 
 -- ---- revisions
 

@@ -1,8 +1,9 @@
 -- All lines of a replica, and lines taken in one after the other.
 use Rattle.std.specs.Prelude.{List, [], ◌∷◌, ◌++◌, map, false, ◌≡◌, ℕ, eqb}
+use Rattle.rules.specs.declared.Refusal.{Refusal}
+use Rattle.rules.specs.declared.Outcome.{Outcome}
+use Rattle.std.specs.Prelude.{Result, Ok}
 use Rattle.rules.specs.declared.Outcome.TheVariants.{Unchanged}
-use Rattle.rules.specs.declared.Written.{Written}
-use Rattle.rules.specs.declared.Written.TheVariants.{Accepted}
 use Rattle.rules.specs.Choice.{pick}
 use Rattle.rules.specs.Read.{leaves}
 use Rattle.rules.specs.Replica.{Id, Document, Replica}
@@ -38,19 +39,19 @@ abbrev pub AllWritable : Replica → Type 0
 AllWritable r = (d : Id × Document) → In d r.documents → unwritable d.0 ≡ false
 
 -- lines taken in one after the other, each into what those before it left: their answers, and what is left
-abbrev pub TakesAll : Replica → List (List ℕ) → List Written → Replica → Type 0
+abbrev pub TakesAll : Replica → List (List ℕ) → List (Result Outcome Refusal) → Replica → Type 0
 TakesAll r [] [] left = left ≡ r
 TakesAll r [] (x ∷ xs) left = ⊥
 TakesAll r (l ∷ ls) [] left = ⊥
 TakesAll r (l ∷ ls) (x ∷ xs) left = (m : Replica) × TakesIn r l (x, m) × TakesAll m ls xs left
 
 -- all lines of r were accepted, and left exactly the union of what r held, sequences aside
-pub record Copied (r : Replica) (answers : List Written) (left : Replica) : Type 1 where
-  pub accepted : (x : Written) → In x answers → IsAccepted x
+pub record Copied (r : Replica) (answers : List (Result Outcome Refusal)) (left : Replica) : Type 1 where
+  pub accepted : (x : Result Outcome Refusal) → In x answers → IsAccepted x
   pub union : IsUnion left (held r)
   pub same : SameButSeq left r
 
 -- none of them changed anything
-pub record Stayed (r : Replica) (answers : List Written) (left : Replica) : Type 0 where
-  pub unchanged : (x : Written) → In x answers → x ≡ Accepted Unchanged
+pub record Stayed (r : Replica) (answers : List (Result Outcome Refusal)) (left : Replica) : Type 0 where
+  pub unchanged : (x : Result Outcome Refusal) → In x answers → x ≡ Ok Unchanged
   pub same : left ≡ r

@@ -1,26 +1,19 @@
 -- How a loop over bytes meets the order and the test for zeros. Assumes nothing.
-use mathlib.Core.Path.{◌≡◌, refl, sym, ap, ◌∙◌}
-use mathlib.Core.Bool.{true, false}
-use mathlib.Core.List.{List, [], ◌∷◌, ◌++◌}
-use Prim.Native.Nat.{ℕ, ◌+◌, ◌*◌, ◌≤◌, ◌<◌}
-use native.Mathlib.Numerals.{add-one}
-use native.Mathlib.Omega.{arith}
-use lib.ListN.{length, get_or, drop, drop_of_length-le}
-use lib.Seq.{drop-cons, drop-drop, take-add}
-use borrow.Author.Tests.{eq-eqb, ne_eqb}
-use Rattle.rules.specs.declared.Order.{Order}
-use Rattle.rules.specs.declared.Order.TheVariants.{Less, Equal, Greater}
+use Rattle.std.proofs.Common.{◌≡◌, refl, sym, ap, ◌∙◌, Less, Equal, Greater, Ordering, false, List, [], ◌∷◌, ◌++◌, ℕ, suc, ◌+◌, ◌*◌, ◌≤◌, ◌<◌, arith, length, drop, drop-drop, take-add, nat_cmp, nat_eq, ◌&&◌, is_eq, eqb}
+use Rattle.std.proofs.lemmas.Cmp.{by_ranked, ranked}
+use Rattle.std.specs.Cmp.Lexicographic.{slice_cmp, pointwise, texts_ties}
+use Rattle.std.specs.List.{list_all}
+use Rattle.std.specs.Ordering.{ordering_then}
 use Rattle.rules.specs.Order.{order_n, and_then, order_bytes, is_equal}
 use Rattle.rules.specs.Bytes.{value, value_from, part, Bytes, all_zero}
-use Rattle.rules.specs.Room.{hash_size}
 use Rattle.rules.proofs.ByteLaws.{length_part}
 use Rattle.rules.proofs.OrderLaws.{order_n_same, order_n_self, order_n_less, less_order_n, order_n_turn, order_bytes_same}
-use Rattle.octets.specs.Octets.{IsNumber}
+use Rattle.octets.proofs.NumberLaws.{number, value_number}
 
 pub greater_order_n : (a b : ℕ) → b < a → order_n a b ≡ Greater
 greater_order_n a b h = go (order_n a b) refl
   where
-    go : (o : Order) → order_n a b ≡ o → o ≡ Greater
+    go : (o : Ordering) → order_n a b ≡ o → o ≡ Greater
     go Less e = let k = order_n_less a b e in absurd (omega arith)
     go Equal e = let k = order_n_same a b e in absurd (omega arith)
     go Greater e = refl
@@ -28,34 +21,45 @@ greater_order_n a b h = go (order_n a b) refl
 pub equal_order_n : (a b : ℕ) → a ≡ b → order_n a b ≡ Equal
 equal_order_n a b e = rw e (order_n_self b)
 
--- ---- a loop over two lists
+-- ---- the library's order, equality and test of all
 
-order_step : (a b : List ℕ) (i : ℕ) → i < length a → i < length b
-    → order_bytes (drop i a) (drop i b) ≡ and_then (order_n (get_or a i 0) (get_or b i 0)) (order_bytes (drop (i + 1) a) (drop (i + 1) b))
+pub order_n_cmp : (a b : ℕ) → nat_cmp a b ≡ order_n a b
+order_n_cmp a b =
+    by_ranked _ _ _ _ (ranked a b _ refl) (λ e h. e ∙ sym (less_order_n a b h)) (λ e h. e ∙ sym (equal_order_n a b h)) (λ e h. e ∙ sym (greater_order_n a b h))
+
+pub ordering_then_lem : (o r : Ordering) → ordering_then o r ≡ and_then o r
+ordering_then_lem Less r = refl
+ordering_then_lem Equal r = refl
+ordering_then_lem Greater r = refl
+
+pub order_bytes_cmp : (a b : List ℕ) → slice_cmp nat_cmp a b ≡ order_bytes a b
 unfolding order_bytes
-order_step a b i h k = rw (drop-cons a i 0 h, drop-cons b i 0 k, add-one i)
+order_bytes_cmp [] [] = refl
+order_bytes_cmp [] (y ∷ b) = refl
+order_bytes_cmp (x ∷ a) [] = refl
+order_bytes_cmp (x ∷ a) (y ∷ b) = rw (order_n_cmp x y, order_bytes_cmp a b) (ordering_then_lem (order_n x y) (order_bytes a b))
 
-pub order_short : (a b : List ℕ) (i : ℕ) → i < length a → length b ≤ i → order_bytes (drop i a) (drop i b) ≡ Greater
-unfolding order_bytes
-order_short a b i h k = rw (drop-cons a i 0 h, drop_of_length-le b k)
+pub order_bytes_eq : (a b : List ℕ) → pointwise nat_eq a b ≡ is_equal (order_bytes a b)
+order_bytes_eq a b = texts_ties a b ∙ (rw (order_bytes_cmp a b) (is_eq_lem (order_bytes a b)))
+  where
+    is_eq_lem : (o : Ordering) → is_eq o ≡ is_equal o
+    is_eq_lem Less = refl
+    is_eq_lem Equal = refl
+    is_eq_lem Greater = refl
 
-pub order_long : (a b : List ℕ) (i : ℕ) → length a ≤ i → i < length b → order_bytes (drop i a) (drop i b) ≡ Less
-unfolding order_bytes
-order_long a b i h k = rw (drop_of_length-le a h, drop-cons b i 0 k)
+-- two lists that differ somewhere are not the same
+pub differ : (a b : List ℕ) → (a ≡ b → ⊥) → is_equal (order_bytes a b) ≡ false
+differ a b n = go (order_bytes a b) refl
+  where
+    go : (o : Ordering) → order_bytes a b ≡ o → is_equal o ≡ false
+    go Less e = refl
+    go Equal e = absurd (n (order_bytes_same a b e))
+    go Greater e = refl
 
-pub order_done : (a b : List ℕ) (i : ℕ) → length a ≤ i → length b ≤ i → order_bytes (drop i a) (drop i b) ≡ Equal
-unfolding order_bytes
-order_done a b i h k = rw (drop_of_length-le a h, drop_of_length-le b k)
-
-module _ (a b : List ℕ) (i : ℕ) (h : i < length a) (k : i < length b) where
-  pub order_less : get_or a i 0 < get_or b i 0 → order_bytes (drop i a) (drop i b) ≡ Less
-  order_less p = order_step a b i h k ∙ rw (less_order_n (get_or a i 0) (get_or b i 0) p)
-
-  pub order_more : get_or b i 0 < get_or a i 0 → order_bytes (drop i a) (drop i b) ≡ Greater
-  order_more p = order_step a b i h k ∙ rw (greater_order_n (get_or a i 0) (get_or b i 0) p)
-
-  pub order_next : get_or a i 0 ≡ get_or b i 0 → order_bytes (drop i a) (drop i b) ≡ order_bytes (drop (i + 1) a) (drop (i + 1) b)
-  order_next p = order_step a b i h k ∙ rw (equal_order_n (get_or a i 0) (get_or b i 0) p)
+pub all_zero_all : (s : List ℕ) → list_all (λ b. eqb b 0) s ≡ all_zero s
+unfolding all_zero
+all_zero_all [] = refl
+all_zero_all (b ∷ s) = ap (λ t. eqb b 0 && t) (all_zero_all s)
 
 -- ---- bytes that are as many compare as the numbers that they are
 
@@ -77,7 +81,7 @@ from_order v (x ∷ a) (y ∷ b) e p q = go (order_n x y) refl (λ w. from_order
     n : length a ≡ length b
     n = omega arith
 
-    go : (o : Order) → order_n x y ≡ o → ((w : ℕ) → order_n (value_from w a) (value_from w b) ≡ order_bytes a b)
+    go : (o : Ordering) → order_n x y ≡ o → ((w : ℕ) → order_n (value_from w a) (value_from w b) ≡ order_bytes a b)
         → order_n (value_from (v * 256 + x) a) (value_from (v * 256 + y) b) ≡ and_then o (order_bytes a b)
     go Less o ih =
         let h = order_n_less x y o in
@@ -99,7 +103,7 @@ order_append [] (y ∷ b) c d e = absurd (omega arith)
 order_append (x ∷ a) [] c d e = absurd (omega arith)
 order_append (x ∷ a) (y ∷ b) c d e = go (order_n x y) (order_append a b c d (omega arith))
   where
-    go : (o : Order) → order_bytes (a ++ c) (b ++ d) ≡ and_then (order_bytes a b) (order_bytes c d)
+    go : (o : Ordering) → order_bytes (a ++ c) (b ++ d) ≡ and_then (order_bytes a b) (order_bytes c d)
         → and_then o (order_bytes (a ++ c) (b ++ d)) ≡ and_then (and_then o (order_bytes a b)) (order_bytes c d)
     go Less h = refl
     go Equal h = h
@@ -119,48 +123,8 @@ order_halves a b p q k h i x y =
     let e : length (part p k a) ≡ length (part q k b) = omega arith in
     rw (halves a p k, halves b q k, order_append (part p k a) (part q k b) (part (p + k) k a) (part (q + k) k b) e, order_value (part p k a) (part q k b) e x y)
 
--- hashes, whose first halves are the numbers x and y
-module _ (a b : List ℕ) (p q : ℕ) (h : p + hash_size ≤ length a) (i : q + hash_size ≤ length b) {limit x y : ℕ} (X : IsNumber 8 limit a p x) (Y : IsNumber 8 limit b q y) where
-  abbrev hashes : Order
-  hashes = order_bytes (part p hash_size a) (part q hash_size b)
-
-  pub by_first : (o : Order) → order_n x y ≡ o → hashes ≡ and_then o (order_bytes (part (p + 8) 8 a) (part (q + 8) 8 b))
-  by_first o e = order_halves a b p q 8 (omega arith) (omega arith) X.bytes Y.bytes ∙ rw (sym X.is, sym Y.is, e)
-
-  pub by_second : {u v : ℕ} → x ≡ y → IsNumber 8 limit a (p + 8) u → IsNumber 8 limit b (q + 8) v → hashes ≡ order_n u v
-  by_second e k l =
-      let m = length_part (p + 8) 8 a (omega arith) in
-      let n = length_part (q + 8) 8 b (omega arith) in
-      let o = order_value (part (p + 8) 8 a) (part (q + 8) 8 b) (m ∙ sym n) k.bytes l.bytes in
-      by_first Equal (equal_order_n x y e) ∙ rw (k.is, l.is) (sym o)
-
--- ---- sameness
-
--- two lists that differ somewhere are not the same
-pub differ : (a b : List ℕ) → (a ≡ b → ⊥) → is_equal (order_bytes a b) ≡ false
-differ a b n = go (order_bytes a b) refl
-  where
-    go : (o : Order) → order_bytes a b ≡ o → is_equal o ≡ false
-    go Less e = refl
-    go Equal e = absurd (n (order_bytes_same a b e))
-    go Greater e = refl
-
-pub differ_length : (a b : List ℕ) → (length a ≡ length b → ⊥) → is_equal (order_bytes a b) ≡ false
-differ_length a b n = differ a b (λ e. n (ap length e))
-
-pub differ_at : (a b : List ℕ) (i : ℕ) → (get_or a i 0 ≡ get_or b i 0 → ⊥) → is_equal (order_bytes a b) ≡ false
-differ_at a b i n = differ a b (λ e. n (ap (λ (l : List ℕ). get_or l i 0) e))
-
--- ---- zeros
-
-pub zero_none : (s : List ℕ) (i : ℕ) → length s ≤ i → all_zero (drop i s) ≡ true
-unfolding all_zero
-zero_none s i h = rw (drop_of_length-le s h)
-
-pub zero_next : (s : List ℕ) (i : ℕ) → i < length s → get_or s i 0 ≡ 0 → all_zero (drop i s) ≡ all_zero (drop (i + 1) s)
-unfolding all_zero
-zero_next s i h e = rw (drop-cons s i 0 h, eq-eqb (get_or s i 0) 0 e, add-one i)
-
-pub zero_stop : (s : List ℕ) (i : ℕ) → i < length s → (get_or s i 0 ≡ 0 → ⊥) → all_zero (drop i s) ≡ false
-unfolding all_zero
-zero_stop s i h n = rw (drop-cons s i 0 h, ne_eqb (get_or s i 0) 0 n)
+-- the library's numbers of as many bytes compare as the bytes do
+pub numbers_cmp : (a b : List ℕ) (k : ℕ) {x y : ℕ} → length a ≡ suc k → length b ≡ suc k → Bytes a → Bytes b → x ≡ number k a → y ≡ number k b
+    → nat_cmp x y ≡ order_bytes a b
+numbers_cmp a b k {x} {y} m n p q e f =
+    rw (e ∙ sym (value_number a k m), f ∙ sym (value_number b k n), order_n_cmp (value a) (value b)) (order_value a b (m ∙ sym n) p q)

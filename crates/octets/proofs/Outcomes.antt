@@ -1,9 +1,7 @@
 -- Each public function has one outcome. Assumes nothing.
-use mathlib.Core.Path.{refl}
+use Rattle.std.proofs.Common.{refl}
 use Rattle.rules.specs.Outcome.{OneOutcome, nothing}
 use Rattle.rules.proofs.OutcomeLaws.{fixed}
-use Rattle.octets.proofs.number.lesser.Kinds as lesser
-use Rattle.octets.proofs.number.lesser.Reads as lesser'
 use Rattle.octets.proofs.number.get2.Kinds as get2
 use Rattle.octets.proofs.number.get2.Reads as get2'
 use Rattle.octets.proofs.number.get4.Kinds as get4
@@ -34,9 +32,6 @@ use Rattle.octets.proofs.run.get_hash.Kinds as get-hash
 use Rattle.octets.proofs.run.get_hash.Reads as get-hash'
 use Rattle.octets.proofs.run.put_hash.Kinds as put-hash
 use Rattle.octets.proofs.run.put_hash.Reads as put-hash'
-
-pub lesser_outcome : OneOutcome _ lesser.ps lesser.r lesser'.Asked lesser'.Learnt nothing
-lesser_outcome κs a x y s t h p q = (fixed p q, refl)
 
 pub get2_outcome : OneOutcome _ get2.ps get2.r get2'.Asked get2'.Learnt nothing
 get2_outcome κs a x y s t h p q = (fixed p.is q.is, refl)

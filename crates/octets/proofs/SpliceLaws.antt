@@ -1,12 +1,10 @@
 -- Laws of splice. Assumes nothing.
-use mathlib.Core.Path.{◌≡◌, refl, sym, ap, ◌∙◌}
-use mathlib.Core.List.{List, [], ◌∷◌, ◌++◌, append_assoc, append-nil}
-use Prim.Native.Nat.{ℕ, suc, ◌+◌, ◌-◌, ◌≤◌, ◌<◌}
-use native.Mathlib.Nat.{add_assoc, zero-add, add-zero, sub-zero}
-use native.Mathlib.Numerals.{add-one}
-use native.Mathlib.Omega.{arith}
-use lib.ListN.{length, get_or, set, take, drop, replicate, length-append, length-take, length-drop, length-replicate, get_or-append, take-append-drop, replicate-append-replicate}
-use lib.Seq.{take-suc, drop-cons, set_at, sets, sets-eq, paste, drop-length, take_at, drop_at, drop-drop, drop-append-le, take-append-le, get_or-take, take-append-add, drop-append-add}
+use Rattle.std.proofs.Common.{◌≡◌, refl, sym, ◌∙◌, List, [], ◌∷◌, ◌++◌, append_assoc, append-nil, ℕ, ◌+◌, ◌≤◌, ◌<◌, add_assoc, zero-add, add-zero, arith, length, set, take, drop, replicate, length-append, length-take, length-drop, take-append-drop, take_at, drop_at, drop-drop}
+use lib.ListN.{length-replicate}
+use lib.Seq.{sets, sets-eq, paste, drop-length, drop-append-le, take-append-le, take-append-add, drop-append-add}
+use Rattle.std.proofs.lemmas.List.Edits.{paste_all}
+use Rattle.std.proofs.lemmas.Slice.{put_mid-paste}
+use borrow.Rule.Slice.PartMut.{put_mid}
 use Rattle.rules.specs.Bytes.{part}
 use Rattle.octets.specs.Splice.{splice}
 
@@ -88,26 +86,12 @@ pub part_splice_at : (s : List ℕ) (at : ℕ) (vs : List ℕ) (n : ℕ) → at 
 unfolding part
 part_splice_at s at vs n h e = rw (drop_splice_at s at vs h) (take_at vs (drop (at + length vs) s) n (sym e))
 
-pub get_d_splice_before : (s : List ℕ) (at : ℕ) (vs : List ℕ) (i : ℕ) → i < at → at ≤ length s → get_or (splice s at vs) i 0 ≡ get_or s i 0
-unfolding splice
-get_d_splice_before s at vs i h k =
-    rw (get_or-append (take at s) (vs ++ drop (at + length vs) s) 0 i (simp length-take (omega arith)), get_or-take at s i 0 h)
-
 -- ---- how code writes a splice
 
 -- stores one after the other
 pub stores : (vs s : List ℕ) (at : ℕ) → at + length vs ≤ length s → sets s at vs ≡ splice s at vs
 unfolding splice
 stores vs s at h = sets-eq vs s at h ∙ append_assoc (take at s) vs (drop (at + length vs) s)
-
--- a copy that is done
-pub copied : (s : List ℕ) (at : ℕ) (src : List ℕ) (i : ℕ) → i ≡ length src → paste s at src i ≡ splice s at src
-unfolding splice
-copied s at src i e = rw (e, whole src) (append_assoc (take at s) src (drop (at + length src) s))
-  where
-    whole : (l : List ℕ) → take (length l) l ≡ l
-    whole [] = refl
-    whole (x ∷ l) = ap (λ (r : List ℕ). x ∷ r) (whole l)
 
 -- one more behind a run
 pub splice_behind : (s : List ℕ) (at q v : ℕ) (vs : List ℕ) → q ≡ at + length vs → q < length s → set (splice s at vs) q v ≡ splice s at (vs ++ (v ∷ []))
@@ -116,48 +100,20 @@ splice_behind s at q v vs e h =
     let o : set (splice s at vs) q v ≡ splice (splice s at vs) q (v ∷ []) = stores (v ∷ []) (splice s at vs) q (omega arith) in
     o ∙ rw e (splice-splice s at vs (v ∷ []) (omega arith))
 
--- zeros, one after the other
-pub cleared_more : (s : List ℕ) (at i : ℕ) → at + i < length s → set (splice s at (replicate i 0)) (at + i) 0 ≡ splice s at (replicate (i + 1) 0)
-cleared_more s at i h =
-    let zs : List ℕ = replicate i 0 in
-    let n : length zs ≡ i = length-replicate i 0 in
-    splice_behind s at (at + i) 0 zs (rw n) h ∙ rw (replicate-append-replicate {A = ℕ} i 1 0)
-
--- one more in front of a run
-pub splice_front : (s : List ℕ) (p q v : ℕ) (vs : List ℕ) → q ≡ p + 1 → q ≤ length s → set (splice s q vs) p v ≡ splice s p (v ∷ vs)
+-- a run that code has replaced
+pub put_run : (s : List ℕ) (at k : ℕ) (new vs : List ℕ) → new ≡ vs → k ≡ length vs → put_mid at k s new ≡ splice s at vs
 unfolding splice
-splice_front s p q v vs e h =
-    let b : p < length s = omega arith in
-    let n : length (take p s) ≡ p = simp length-take (omega arith) in
-    let m : p + suc (length vs) ≡ suc p + length vs = omega arith in
-    rw (e, add-one p, take-suc s p 0 b, append_assoc (take p s) (get_or s p 0 ∷ []) (vs ++ drop (suc p + length vs) s), set_at (take p s) (get_or s p 0) (vs ++ drop (suc p + length vs) s) v p n, m)
+put_run s at k new vs e n = put_mid-paste at k s new vs k e refl n ∙ rw n (paste_all s at vs (length vs) refl)
 
--- ---- moving a run up, from its end down
+pub cleared : (s : List ℕ) (at k n m : ℕ) (new : List ℕ) → new ≡ replicate m 0 → m ≡ n → k ≡ n → put_mid at k s new ≡ splice s at (replicate n 0)
+cleared s at k n m new e p q = put_run s at k new (replicate n 0) (rw p at e) (q ∙ sym (length-replicate n 0))
 
--- s, with the elements from `at + k` up to `at + len` moved up by `by`
-unfoldable pub moved : List ℕ → ℕ → ℕ → ℕ → ℕ → List ℕ
-moved s at len by k = splice s (at + by + k) (part (at + k) (len - k) s)
-
-pub moved_start : (s : List ℕ) (at len by : ℕ) → s ≡ moved s at len by len
-unfolding moved part
-moved_start s at len by =
-    let z : len - len ≡ 0 = omega arith in
-    rw z (sym (splice_none s (at + by + len)))
-
-pub moved_end : (s : List ℕ) (at len by k : ℕ) → k ≡ 0 → moved s at len by k ≡ splice s (at + by) (part at len s)
-unfolding moved
-moved_end s at len by k e = rw (e, add-zero (at + by), add-zero at, sub-zero len)
-
-pub moved_step : (s : List ℕ) (at len by k j : ℕ) → k ≡ j + 1 → k ≤ len → at + len + by ≤ length s
-    → set (moved s at len by k) (at + by + j) (get_or (moved s at len by k) (at + j) 0) ≡ moved s at len by j
-unfolding moved part
-moved_step s at len by k j e h r =
-    let vs : List ℕ = take (len - k) (drop (at + k) s) in
-    let g : get_or (splice s (at + by + k) vs) (at + j) 0 ≡ get_or s (at + j) 0 = get_d_splice_before s (at + by + k) vs (at + j) (omega arith) (omega arith) in
-    let f : set (splice s (at + by + k) vs) (at + by + j) (get_or s (at + j) 0) ≡ splice s (at + by + j) (get_or s (at + j) 0 ∷ vs) = splice_front s (at + by + j) (at + by + k) (get_or s (at + j) 0) vs (omega arith) (omega arith) in
-    let d : len - j ≡ suc (len - k) = omega arith in
-    let m : at + k ≡ suc (at + j) = omega arith in
-    rw (g, f, d, drop-cons s (at + j) 0 (omega arith), m)
+-- a run that code has copied within a list
+pub moved_up : (s : List ℕ) (at to len n : ℕ) → n ≡ len → at + len ≤ length s → paste s to (drop at s) n ≡ splice s to (part at len s)
+unfolding splice part
+moved_up s at to len n e h =
+    let l : length (take len (drop at s)) ≡ len = simp (length-take, length-drop) (omega arith) in
+    rw (e, l) (append_assoc (take to s) (take len (drop at s)) (drop (to + len) s))
 
 -- a run moves up and another takes its place
 pub gap : (A C z Z x : List ℕ) (p len w : ℕ) → length A ≡ p → length C ≡ len → length x ≡ w → length z ≡ w

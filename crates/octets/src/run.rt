@@ -12,11 +12,7 @@ pub fn copy_in(s: &mut [u8], at: usize, src: &[u8])
     requires { at + length src.now ≤ length s.old }
     ensures { s.new ≡ splice s.old at src.now }
 {
-    let mut i = 0;
-    while i < src.len() {
-        s[at + i] = src[i];
-        i += 1;
-    }
+    s[at..at + src.len()].copy_from_slice(src);
 }
 
 // Makes n bytes zero.
@@ -24,23 +20,25 @@ pub fn clear(s: &mut [u8], at: usize, n: usize)
     requires { at + n ≤ length s.old }
     ensures { s.new ≡ splice s.old at (replicate n 0) }
 {
-    let mut i = 0;
-    while i < n {
-        s[at + i] = 0;
-        i += 1;
-    }
+    s[at..at + n].fill(0);
 }
 
-// Moves len bytes up by `by`. It goes from the end, so that no byte is written before it is read.
+// Moves len bytes up by `by`.
 pub fn move_up(s: &mut [u8], at: usize, len: usize, by: usize)
     requires { at + len + by ≤ length s.old }
     ensures { s.new ≡ splice s.old (at + by) (part at len s.old) }
 {
-    let mut k = len;
-    while 0 < k {
-        k -= 1;
-        s[at + by + k] = s[at + k];
-    }
+    s.copy_within(at..at + len, at + by);
+}
+
+// The N bytes at `at`.
+pub(crate) fn bytes_at<const N: usize>(s: &[u8], at: usize) -> [u8; N]
+    requires { at + N ≤ length s.now }
+    ensures { result ≡ part at N s.now }
+{
+    let mut bytes = [0; N];
+    bytes.copy_from_slice(&s[at..at + N]);
+    bytes
 }
 
 // The sixteen bytes at `at`.
@@ -48,10 +46,7 @@ pub fn get_hash(s: &[u8], at: usize) -> [u8; HASH]
     requires { at + hash_size ≤ length s.now }
     ensures { IsHash s.now at result }
 {
-    let mut h = [0u8; HASH];
-    let e = at + HASH;
-    copy_in(&mut h, 0, &s[at..e]);
-    h
+    bytes_at(s, at)
 }
 
 // Writes sixteen bytes.

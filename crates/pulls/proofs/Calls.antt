@@ -1,9 +1,11 @@
 -- Calls of the compiled write and pull: their promises are what is said of them, and what each leaves of the replica that was held. Assumes nothing.
 use mathlib.Core.Path.{◌≡◌, refl, sym, ap, ap₂, ◌∙◌, subst}
+use Rattle.rules.specs.declared.Refusal.{Refusal}
+use Rattle.rules.specs.declared.Outcome.{Outcome}
+use Rattle.std.specs.Prelude.{Result}
 use mathlib.Core.List.{List, [], ◌∷◌}
 use Prim.Native.Nat.{ℕ}
 use Rattle.rules.specs.declared.Seq.{Seq}
-use Rattle.rules.specs.declared.Written.{Written}
 use Rattle.rules.specs.Outcome.{Call}
 use Rattle.rules.specs.Replica.{Replica}
 use Rattle.rules.specs.Union.{write_all, IsAccepted, AllAccepted}
@@ -71,5 +73,5 @@ unfolding answers
 answered [] s left calls = refl
 answered (w ∷ ws) s left calls =
     let d = calls.2 in
-    ap₂ (λ (o : Written) (os : List Written). o ∷ os) d.answer
+    ap₂ (λ (o : Result Outcome Refusal) (os : List (Result Outcome Refusal)). o ∷ os) d.answer
     (answered ws calls.1 left calls.3 ∙ ap (λ (r : Replica). answers r ws) d.means)

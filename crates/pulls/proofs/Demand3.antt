@@ -1,13 +1,14 @@
 -- Demand 3, of the compiled write and pull: what their promises say of any bytes that hold replicas. Assumes nothing.
 use mathlib.Core.Path.{◌≡◌, refl, sym, ap, ◌∙◌}
+use Rattle.rules.specs.declared.Refusal.{Refusal}
+use Rattle.rules.specs.declared.Outcome.{Outcome}
+use Rattle.std.specs.Prelude.{Result, Ok, Err}
 use mathlib.Core.List.{List, [], ◌∷◌, ◌++◌}
 use mathlib.Core.Logic.{inl, inr, ◌↔◌}
 use Prim.Native.Nat.{ℕ}
 use Rattle.rules.specs.declared.Counts.{Counts}
 use Rattle.rules.specs.declared.Outcome.TheVariants.{Changed, Unchanged}
 use Rattle.rules.specs.declared.Seq.{Seq}
-use Rattle.rules.specs.declared.Written.{Written}
-use Rattle.rules.specs.declared.Written.TheVariants.{Accepted, Refused}
 use Rattle.rules.specs.Pull.{offers, count, no_counts, take_in, pull}
 use Rattle.rules.specs.Read.{winner, documents_after}
 use Rattle.rules.specs.Replica.{Id, Document, Replica, fresh, document_of, tree_of}
@@ -55,11 +56,11 @@ any_order ws vs same k c f s a b e calls others =
 
 -- ---- pulls both ways
 
-count_accepted : (o : Written) (c : Counts) → IsAccepted o → (count o c).refused ≡ c.refused
+count_accepted : (o : Result Outcome Refusal) (c : Counts) → IsAccepted o → (count o c).refused ≡ c.refused
 unfolding count
-count_accepted (Accepted Changed) c h = refl
-count_accepted (Accepted Unchanged) c h = refl
-count_accepted (Refused n) c h = absurd h
+count_accepted (Ok Changed) c h = refl
+count_accepted (Ok Unchanged) c h = refl
+count_accepted (Err n) c h = absurd h
 
 take_in_accepted : (ws : List Write) (c : Counts) (r : Replica) → AllAccepted ws r → (take_in ws (c, r)).0.refused ≡ c.refused
 unfolding take_in

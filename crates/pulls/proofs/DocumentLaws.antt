@@ -3,7 +3,7 @@ use mathlib.Core.Path.{◌≡◌, refl, sym, ap, ◌∙◌, subst}
 use mathlib.Core.Bool.{Bool, true, false}
 use mathlib.Core.List.{List, [], ◌∷◌}
 use mathlib.Core.Logic.{inl, inr, ◌↔◌}
-use mathlib.Core.Option.{some}
+use Rattle.std.specs.Prelude.{Some}
 use Prim.Native.Nat.{ℕ, ◌≤◌, ◌<◌}
 use native.Mathlib.Omega.{arith}
 use lib.Dec.{leb, ltb}
@@ -193,7 +193,7 @@ apart r k = go r.documents k.ascending (λ d m. m)
 
 -- "the source documents after that sequence": those whose own is above it
 pub documents_after_lem : (r : Replica) → IsReplica r → (s : Seq) (i : Id) (d : Document)
-    → In (i, d) (documents_after s r.documents) ↔ ((document_of r i ≡ some d) × (s.0 < d.seq.0))
+    → In (i, d) (documents_after s r.documents) ↔ ((document_of r i ≡ Some d) × (s.0 < d.seq.0))
 unfolding document_of
 documents_after_lem r k s i d = (
   λ m. (in_find bytes_order r.documents k.ascending (i, d) (after_out s r.documents (i, d) m), after_over s r.documents (i, d) m),
@@ -211,7 +211,7 @@ above_all q [] h = above_nil q
 above_all q (x ∷ xs) h = above_keep q x xs (h x (inl refl)) ∙ ap (λ (l : List (Id × Document)). x ∷ l) (above_all q xs (λ y m. h y (inr m)))
 
 -- "Documents come in order of their sequence": the one with the lowest above s, then those after it
-pub after_next : (r : Replica) → IsReplica r → (s : Seq) (d : Id × Document) → first_of (documents_after s r.documents) ≡ some d
+pub after_next : (r : Replica) → IsReplica r → (s : Seq) (d : Id × Document) → first_of (documents_after s r.documents) ≡ Some d
     → documents_after s r.documents ≡ d ∷ documents_after d.1.seq r.documents
 after_next r k s d e = go (documents_after s r.documents) refl
   where

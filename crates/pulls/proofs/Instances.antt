@@ -3,7 +3,7 @@ use mathlib.Core.Path.{◌≡◌, refl, sym, ap, ap₂, ◌∙◌}
 use mathlib.Core.Bool.{true≢false}
 use mathlib.Core.List.{List, [], ◌∷◌, ◌++◌}
 use mathlib.Core.Logic.{inl, inr}
-use mathlib.Core.Option.{none, some}
+use Rattle.std.specs.Prelude.{None, Some}
 use Prim.Native.Nat.{ℕ}
 use Rattle.rules.specs.declared.Content.{Content}
 use Rattle.rules.specs.declared.Content.TheVariants.{Live}
@@ -105,7 +105,7 @@ not_compatible k =
     let v = revision 1 (hash 0x20) in
     let one : Write = on lot 1 (0x20 ∷ []) (Live 7) in
     let two : Write = on lot 1 (0x20 ∷ []) (Live 9) in
-    let node : Content → Node = λ c. record { parent = none; content = some c } in
+    let node : Content → Node = λ c. record { parent = None; content = Some c } in
     let e = k.contents lot v (Live 7) (Live 9)
     (node (Live 7), (one, inl refl, refl, inl refl), refl) (node (Live 9), (two, inr (inl refl), refl, inl refl), refl) in
     true≢false (sym e)

@@ -1,5 +1,8 @@
 -- One offer, and the leaves of a document offered from the last row down. Assumes nothing.
 use mathlib.Core.Path.{◌≡◌, refl, sym, ap, ap₂, ◌∙◌, subst}
+use Rattle.rules.specs.declared.Refusal.{Refusal}
+use Rattle.rules.specs.declared.Outcome.{Outcome}
+use Rattle.std.specs.Prelude.{None, Some, Result}
 use mathlib.Core.List.{List, [], ◌∷◌, ◌++◌, map}
 use mathlib.Core.Logic.{inl}
 use Prim.Native.Nat.{ℕ, suc, ◌+◌, ◌-◌, ◌≤◌, ◌<◌}
@@ -8,7 +11,6 @@ use lib.ListN.{length, take}
 use Rattle.rules.specs.declared.Content.{Content}
 use Rattle.rules.specs.declared.Counts.{Counts}
 use Rattle.rules.specs.declared.Revision.{Revision}
-use Rattle.rules.specs.declared.Written.{Written}
 use Rattle.rules.specs.Bytes.{join, part, pieces}
 use Rattle.rules.specs.Layout.{row_size}
 use Rattle.rules.specs.Pull.{offer, offers_of, count, take_in}
@@ -26,7 +28,6 @@ use Rattle.union.proofs.Lists.{in_right}
 use Rattle.union.proofs.Offers.{path_room_lem}
 use Rattle.union.proofs.Pulls.{count_one}
 use Rattle.union.proofs.Winners.{leaf_content}
-use Rattle.tree.specs.declared.row.Kind.TheVariants.{Inner, Leaf}
 use Rattle.tree.specs.declared.table.Body.{Body}
 use Rattle.tree.specs.Leaf.{leaf_of}
 use Rattle.tree.specs.Path.{PathPut}
@@ -65,7 +66,7 @@ was_put {u} {v} {p} {n} {q} f h d =
     record { within = omega arith; path = ap (take n) d.is ∙ path_front p bs n (omega arith) (omega arith); room = l }
 
 -- the target is what the write leaves
-pub offer_made : {i : Id} {u : Tree} {v : Revision} {c : Content} {t p : List ℕ} {n : ℕ} {q : List ℕ} {r : Written} {left : List ℕ}
+pub offer_made : {i : Id} {u : Tree} {v : Revision} {c : Content} {t p : List ℕ} {n : ℕ} {q : List ℕ} {r : Result Outcome Refusal} {left : List ℕ}
     → WasPut u v p n q → Wrote t (record { id = i; number = v.number; path = take n q; content = c }) r left
     → Made (offer i u (leaf_of v c)) t p r left q
 unfolding offer
@@ -75,11 +76,11 @@ offer_made {i} {u} {v} {c} {t} {p} {n} {q} {r} {left} put wrote =
     record { answer = d.answer; means = d.means; is_stored = d.is; room = put.room }
 
 -- and the answer is counted
-counted : {w : Write} {c after : Counts} {t p : List ℕ} {r : Written} {left q : List ℕ} → Made w t p r left q → after ≡ count r c
+counted : {w : Write} {c after : Counts} {t p : List ℕ} {r : Result Outcome Refusal} {left q : List ℕ} → Made w t p r left q → after ≡ count r c
     → Offered (w ∷ []) c t p after left q
 unfolding take_in
 counted {c = c} made e = record {
-  is = ap₂ {C = Counts × Replica} (λ a b. (a, b)) (ap (λ (x : Written). count x c) (sym made.answer) ∙ sym e) (sym made.means);
+  is = ap₂ {C = Counts × Replica} (λ a b. (a, b)) (ap (λ (x : Result Outcome Refusal). count x c) (sym made.answer) ∙ sym e) (sym made.means);
   is_stored = made.is_stored;
   room = made.room;
 }
@@ -102,7 +103,7 @@ pub record Left (s : List ℕ) (d : ℕ) (b : Body) (c₀ : Counts) (t₀ p₀ t
 -- row k is a leaf of document d, which i names, with the revision v and the content o
 pub record LeafRow (s : List ℕ) (d : ℕ) (b : Body) (k : ℕ) (i : Id) (v : Revision) (o : Content) : Type 0 where
   pub named : i ≡ (document_at (documents_of s) d).0
-  pub kind : (row_at (row_start b k) s).kind ≡ Leaf o
+  pub kind : (row_at (row_start b k) s).content ≡ Some o
   pub rev : v ≡ rev_at (row_start b k) s
 
 module _ {s : List ℕ} {d : ℕ} {b : Body} (body : IsBody s d b) where
@@ -152,7 +153,7 @@ module _ {s : List ℕ} {d : ℕ} {b : Body} (body : IsBody s d b) where
           ap (λ (n : ℕ). leaves (below n)) e
           ∙ (ap leaves (tree_last b.base (i - 1) s) ∙ leaves_append (below (i - 1)) (node_at place s ∷ []))
 
-      pub left_inner : (row_at place s).kind ≡ Inner → Left s d b c₀ t₀ p₀ t p (i - 1) c
+      pub left_inner : (row_at place s).content ≡ None → Left s d b c₀ t₀ p₀ t p (i - 1) c
       left_inner k =
           let n : leaves (below i) ≡ leaves (below (i - 1)) = next ∙ rw (leaf_none place s k) in
           record {
@@ -192,7 +193,7 @@ module _ {s : List ℕ} {d : ℕ} {b : Body} (body : IsBody s d b) where
             }
 
         -- whatever its answer was, the offer is counted and the rows below are left
-        pub left_counted : {c' : Counts} {t' p' : List ℕ} {a : Written} → Made (offer h (below b.rows) (leaf_of v o)) t p a t' p' → c' ≡ count a c
+        pub left_counted : {c' : Counts} {t' p' : List ℕ} {a : Result Outcome Refusal} → Made (offer h (below b.rows) (leaf_of v o)) t p a t' p' → c' ≡ count a c
             → Left s d b c₀ t₀ p₀ t' p' (i - 1) c'
         left_counted made q = left_leaf (counted made q)
 

@@ -1,12 +1,11 @@
 -- A pull, one document after the other. Assumes nothing.
 use mathlib.Core.Path.{◌≡◌, refl, sym, ap, ◌∙◌, subst}
+use Rattle.std.specs.Prelude.{Option, None, Some}
 use mathlib.Core.List.{List, [], ◌∷◌, ◌++◌}
 use Prim.Native.Nat.{ℕ, suc, ◌+◌, ◌<◌, ◌≤◌}
 use native.Mathlib.Omega.{arith}
 use lib.ListN.{length, length-append}
 use Rattle.rules.specs.declared.Counts.{Counts}
-use Rattle.rules.specs.declared.Next.{Next}
-use Rattle.rules.specs.declared.Next.TheVariants.{Nobody, At}
 use Rattle.rules.specs.declared.Seq.{Seq}
 use Rattle.rules.specs.Answer.{Numbered}
 use Rattle.rules.specs.Pull.{offer, offers_of, offers_in, offers, count, no_counts, take_in, pull}
@@ -53,7 +52,7 @@ module _ {s : List ℕ} {q₀ : Seq} {t₀ : List ℕ} (can : CanPull s t₀) wh
     target_size = size_laid t (stored_laid t rest.is_stored) ∙ sym (size_laid t₀ (stored_laid t₀ can.target))
 
     -- no document is left
-    pub rest_none : {n : Next} → IsNext q 0 (documents_of s) n → n ≡ Nobody → Pulled q₀ s t₀ c t
+    pub rest_none : {n : Option (ℕ × Seq)} → IsNext q 0 (documents_of s) n → n ≡ None → Pulled q₀ s t₀ c t
     unfolding take_in offers_in
     rest_none next e =
         let is : (c, replica_of t) ≡ pull q₀ (replica_of s) (replica_of t₀)
@@ -66,11 +65,11 @@ module _ {s : List ℕ} {q₀ : Seq} {t₀ : List ℕ} (can : CanPull s t₀) wh
           is_stored = rest.is_stored;
         }
 
-    module _ {n : Next} {d : ℕ} {q' : Seq} (found : IsNext q 0 (documents_of s) n) (e : n ≡ At d q') where
+    module _ {n : Option (ℕ × Seq)} {d : ℕ} {q' : Seq} (found : IsNext q 0 (documents_of s) n) (e : n ≡ Some (d, q')) where
       abbrev x : Id × Document
       x = document_at (documents_of s) d
 
-      next : IsNext q 0 (documents_of s) (At d q')
+      next : IsNext q 0 (documents_of s) (Some (d, q'))
       next = subst (IsNext q 0 (documents_of s)) e found
 
       next_is : documents_after q (documents_of s) ≡ x ∷ documents_after q' (documents_of s)

@@ -1,9 +1,11 @@
 -- What a pull and its steps ask for and promise.
 use Rattle.std.specs.Prelude.{◌≡◌, List, [], ◌∷◌, ℕ, ◌+◌, ◌*◌, ◌<◌, ◌≤◌, length}
+use Rattle.rules.specs.declared.Refusal.{Refusal}
+use Rattle.rules.specs.declared.Outcome.{Outcome}
+use Rattle.std.specs.Prelude.{Result}
 use Rattle.rules.specs.declared.Counts.{Counts}
 use Rattle.rules.specs.declared.Revision.{Revision}
 use Rattle.rules.specs.declared.Seq.{Seq}
-use Rattle.rules.specs.declared.Written.{Written}
 use Rattle.rules.specs.Pull.{take_in, pull}
 use Rattle.rules.specs.Read.{leaves, path_of}
 use Rattle.rules.specs.Replica.{Id, Document}
@@ -47,7 +49,7 @@ pub record Offered (ws : List Write) (c : Counts) (t p : List ℕ) (after : Coun
   pub room : length p' ≡ length p
 
 -- the offer w is made to t: it is written, and the scratch place p stays as long as it was
-pub record Made (w : Write) (t p : List ℕ) (r : Written) (left p' : List ℕ) : Type 0 where
+pub record Made (w : Write) (t p : List ℕ) (r : Result Outcome Refusal) (left p' : List ℕ) : Type 0 where
   pub answer : r ≡ (write (replica_of t) w).0
   pub means : replica_of left ≡ (write (replica_of t) w).1
   pub is_stored : IsStored left

@@ -4,7 +4,7 @@
 // store, reads and writes.
 #![tactic(auto)]
 
-ghost use Rattle.std.specs.Prelude.{◌≡◌, ◌<◌};
+ghost use Rattle.std.specs.Prelude.{◌≡◌, ◌<◌, Err, Ok};
 ghost use Rattle.rules.specs.declared.Refusal.{Refusal};
 ghost use Rattle.rules.specs.Pull.{offer, offers_of, count};
 ghost use Rattle.rules.specs.Room.{revisions_most};
@@ -18,52 +18,56 @@ ghost use Rattle.writes.specs.Path.{write_of};
 ghost use Rattle.pulls.specs.Pulls.{CanPull, Pulled, Offered, Made, CanOffer, CanOfferAll};
 
 use reads::replica::next_after;
-use rules::{Content, Counts, HASH, Next, Outcome, PATH_HASHES, Revision, Seq, Written};
+use rules::{Content, Counts, HASH, Outcome, PATH_HASHES, Refusal, Revision, Seq};
 use store::read::{body_of, id_of};
 use tree::path::put_path;
-use tree::row::Kind;
 use tree::table::{Body, kind_at, rev_at};
 use writes::write;
 
 // The bytes of the longest path.
 const PATH: usize = PATH_HASHES * HASH;
 
-fn count_accepted(c: Counts, o: Outcome) -> Counts
+// The counts with one more accepted offer.
+fn count_accepted(c: Counts, outcome: Outcome) -> Counts
     requires { total c < revisions_most }
-    ensures { result ≡ count (Written.Accepted o) c }
+    ensures { result ≡ count (Ok outcome) c }
 {
-    match o {
+    match outcome {
         Outcome::Changed => Counts {
             changed: c.changed + 1,
-            unchanged: c.unchanged,
-            refused: c.refused,
+            ..c
         },
         Outcome::Unchanged => Counts {
-            changed: c.changed,
             unchanged: c.unchanged + 1,
-            refused: c.refused,
+            ..c
         },
     }
 }
 
+// The counts with one more refused offer. It and the former stand apart, since the rules name the `let else`
+// whose other branch counts the refusal.
 fn count_refused(c: Counts) -> Counts
     requires { total c < revisions_most }
-    ensures { (n : Refusal) → result ≡ count (Written.Refused n) c }
+    ensures { (n : Refusal) → result ≡ count (Err n) c }
 {
     Counts {
-        changed: c.changed,
-        unchanged: c.unchanged,
         refused: c.refused + 1,
+        ..c
     }
 }
 
 // One offer to the target, made also where the target knows the leaf.
-fn offer(target: &mut [u8], id: &[u8], rev: Revision, path: &[u8], content: Content) -> Written
+fn offer(
+    target: &mut [u8],
+    id: &[u8],
+    rev: Revision,
+    path: &[u8],
+    content: Content,
+) -> Result<Outcome, Refusal>
     requires { IsStored target.old }
     ensures { Wrote target.old (write_of id.now rev.number path.now content) result target.new }
 {
-    let number = rev.number;
-    write(target, id, number, path, content)
+    write(target, id, rev.number, path, content)
 }
 
 // Offers one leaf with its whole path, whose hashes stand in `path` meanwhile.
@@ -75,7 +79,7 @@ fn offer_leaf(
     rev: Revision,
     content: Content,
     path: &mut [u8],
-) -> Written
+) -> Result<Outcome, Refusal>
     requires { CanOffer source.now body rev target.old path.old }
     ensures { Made (offer id.now (tree_in body source.now) (leaf_of rev content)) target.old path.old result target.new path.new }
 {
@@ -97,21 +101,15 @@ fn offer_document(
 {
     let id = id_of(source, d);
     let body = body_of(source, d);
-    let mut i = body.rows;
     let mut c = counts;
-    while 0 < i {
-        i -= 1;
-        match kind_at(source, body, i) {
-            Kind::Inner => {}
-            Kind::Leaf(content) => {
-                let rev = rev_at(source, body, i);
-                let Written::Accepted(o) = offer_leaf(target, source, body, id, rev, content, path)
-                else {
-                    c = count_refused(c);
-                    continue;
-                };
-                c = count_accepted(c, o);
-            }
+    for i in (0..body.rows).rev() {
+        if let Some(content) = kind_at(source, body, i) {
+            let rev = rev_at(source, body, i);
+            let Ok(outcome) = offer_leaf(target, source, body, id, rev, content, path) else {
+                c = count_refused(c);
+                continue;
+            };
+            c = count_accepted(c, outcome);
         }
     }
     c
@@ -130,11 +128,9 @@ pub fn pull(target: &mut [u8], source: &[u8], after: Seq) -> Counts
         unchanged: 0,
         refused: 0,
     };
-    loop {
-        let Next::At(d, q) = next_after(source, s) else {
-            return counts;
-        };
+    while let Some((d, q)) = next_after(source, s) {
         s = q;
         counts = offer_document(target, source, d, counts, &mut path);
     }
+    counts
 }

@@ -1,13 +1,13 @@
 -- The parts of a leaf's line, and how long it is. Assumes nothing.
 use mathlib.Core.Path.{◌≡◌, refl, sym, ap, ◌∙◌}
 use mathlib.Core.List.{List, [], ◌∷◌, ◌++◌, map, append_assoc, append-nil}
-use Prim.Native.Nat.{ℕ, suc, ◌+◌, ◌*◌, ◌/◌, ◌≤◌, ◌<◌}
+use Prim.Native.Nat.{ℕ, suc, ◌+◌, ◌*◌, ◌/◌, ◌≤◌}
 use native.Mathlib.Omega.{arith}
-use lib.ListN.{length, take, drop, length-append, length-take, length-drop}
+use lib.ListN.{length, take, drop, length-append}
 use Rattle.rules.specs.declared.Content.{Content}
 use Rattle.rules.specs.declared.Content.TheVariants.{Live, Deleted}
 use Rattle.rules.specs.declared.Revision.{Revision}
-use Rattle.rules.specs.Bytes.{pieces, join}
+use Rattle.rules.specs.Bytes.{part, pieces, join}
 use Rattle.rules.specs.Choice.{maybe}
 use Rattle.rules.specs.Map.{find}
 use Rattle.rules.specs.Order.{order_rev}
@@ -18,7 +18,7 @@ use Rattle.rules.specs.Room.{hash_size}
 use Rattle.rules.specs.Write.{parent_in}
 use Rattle.rules.proofs.ByteLaws.{Sized, length-pieces, sized_pieces, length-join, pieces_add, pieces_join_all}
 use Rattle.octets.proofs.SpliceLaws.{splice_none}
-use Rattle.text.specs.Text.{size, hex_size, Put}
+use Rattle.text.specs.Text.{size, Put}
 use Rattle.text.proofs.TextLaws.{length-hex, decimal_longest}
 use Rattle.tree.specs.Leaf.{leaf_of}
 use Rattle.reads.proofs.TreeLaws.{path_unfolds, path_sized}
@@ -39,20 +39,12 @@ unfolding next_texts pieces
 next_none bs s at = record { is = sym (splice_none s at); ends = omega arith }
 
 -- one hash more of those that bytes are
-pub next_piece : (bs : List ℕ) (k : ℕ) {n : ℕ} → n ≡ hash_size
-    → (next_texts (pieces k hash_size bs) ++ text next_word) ++ hex (take n (drop (k * hash_size) bs)) ≡ next_texts (pieces (k + 1) hash_size bs)
-unfolding pieces
-next_piece bs k e =
-    let h : Hash = take hash_size (drop (k * hash_size) bs) in
-    rw e
-    (append_assoc (next_texts (pieces k hash_size bs)) (text next_word) (hex h)
-    ∙ sym (ap next_texts (pieces_add k 1 hash_size bs) ∙ next_more (pieces k hash_size bs) h))
-
--- two digits a byte
-pub piece_size : (bs : List ℕ) (k n : ℕ) → n ≡ hash_size → k < length bs / hash_size → length (hex (take n (drop (k * hash_size) bs))) ≡ hex_size hash_size
-piece_size bs k n e h =
-    let l : length (take n (drop (k * hash_size) bs)) ≡ hash_size = simp (length-take, length-drop) (omega arith) in
-    omega (arith, length-hex (take n (drop (k * hash_size) bs)))
+pub next_piece : (bs : List ℕ) (k : ℕ) {h : Hash} → h ≡ part (k * hash_size) hash_size bs
+    → (next_texts (pieces k hash_size bs) ++ text next_word) ++ hex h ≡ next_texts (pieces (k + 1) hash_size bs)
+unfolding pieces part
+next_piece bs k {h} e =
+    append_assoc (next_texts (pieces k hash_size bs)) (text next_word) (hex h)
+    ∙ rw e (sym (ap next_texts (pieces_add k 1 hash_size bs) ∙ next_more (pieces k hash_size bs) (take hash_size (drop (k * hash_size) bs))))
 
 pub length-next : (hs : List Hash) → Sized hash_size hs → length (next_texts hs) ≡ length hs * next_size
 unfolding next_texts text

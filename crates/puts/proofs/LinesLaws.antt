@@ -1,8 +1,9 @@
 -- The lines of a document's leaves, from the last row down. Assumes nothing.
 use mathlib.Core.Path.{◌≡◌, refl, sym, ap, ◌∙◌}
+use Rattle.std.specs.Prelude.{Option, None, Some}
 use mathlib.Core.List.{List, [], ◌∷◌, ◌++◌, map, append_assoc, append-nil}
 use mathlib.Core.Logic.{inl}
-use Prim.Native.Nat.{ℕ, ◌+◌, ◌-◌, ◌*◌, ◌≤◌}
+use Prim.Native.Nat.{ℕ, ◌+◌, ◌-◌, ◌*◌, ◌≤◌, ◌<◌}
 use native.Mathlib.Omega.{arith}
 use lib.ListN.{length, length-append}
 use Rattle.rules.specs.declared.Content.{Content}
@@ -10,7 +11,7 @@ use Rattle.rules.specs.declared.RevNumber.{RevNumber}
 use Rattle.rules.specs.declared.Revision.{Revision}
 use Rattle.rules.specs.Bytes.{join}
 use Rattle.rules.specs.Layout.{row_size}
-use Rattle.rules.specs.Read.{LeafOf, leaves}
+use Rattle.rules.specs.Read.{LeafOf, leaves, path_of}
 use Rattle.rules.specs.Replica.{Id, Tree, HasContent, IsTree}
 use Rattle.rules.specs.Room.{id_most, hashes_most}
 use Rattle.union.proofs.Lists.{in_left, in_right}
@@ -18,7 +19,6 @@ use Rattle.union.proofs.Winners.{leaf_content}
 use Rattle.octets.proofs.SpliceLaws.{splice_none}
 use Rattle.text.specs.Text.{size, Put}
 use Rattle.text.proofs.TextLaws.{decimal_longest}
-use Rattle.tree.specs.declared.row.Kind.TheVariants.{Inner, Leaf}
 use Rattle.tree.specs.declared.table.Body.{Body}
 use Rattle.tree.specs.Leaf.{leaf_of}
 use Rattle.tree.specs.Rows.{row_at, rev_at}
@@ -26,8 +26,8 @@ use Rattle.tree.specs.Table.{tree_at, tree_in, row_start, Within}
 use Rattle.tree.proofs.LeafLaws.{leaves_append, rev_of_row, rest, rest_none, rest_all, rest_inner, rest_leaf}
 use Rattle.tree.proofs.TableLaws.{tree_cut}
 use Rattle.lines.specs.Put.{leaf_line, lines_text}
-use Rattle.puts.specs.Puts.{label_word, end_word, next_size, fixed_size, line_size, CanSize}
-use Rattle.puts.proofs.LineLaws.{end_most}
+use Rattle.puts.specs.Puts.{label_word, end_word, next_size, fixed_size, line_size, CanSize, CanPut}
+use Rattle.puts.proofs.LineLaws.{end_most, line_size_lem}
 
 -- ---- the lines of some leaves
 
@@ -63,15 +63,19 @@ put_none i b s out = rw (lines_none i b s) (record { is = sym (splice_none out 0
 
 -- row j is a leaf
 pub record LeafRow (b : Body) (s : List ℕ) (j : ℕ) (v : Revision) (c : Content) : Type 0 where
-  pub kind : (row_at (row_start b j) s).kind ≡ Leaf c
+  pub kind : (row_at (row_start b j) s).content ≡ Some c
   pub rev : v ≡ rev_at (row_start b j) s
+
+pub leaf_row : {b : Body} {s : List ℕ} {j : ℕ} {v : Revision} {c : Content} {k : Option Content} → k ≡ (row_at (row_start b j) s).content → k ≡ Some c → v ≡ rev_at (row_start b j) s
+    → LeafRow b s j v c
+leaf_row e f g = record { kind = sym e ∙ f; rev = g }
 
 module _ (i : Id) (b : Body) (s : List ℕ) (n j : ℕ) (e : n ≡ j + 1) (h : n ≤ b.rows) where
   pub row_within : Within b s → row_start b j + row_size ≤ length s
   row_within w = omega arith
 
-  pub lines_inner : (row_at (row_start b j) s).kind ≡ Inner → lines_from i b s n ≡ lines_from i b s j
-  lines_inner k = sym (ap (lines_of i (tree_in b s)) (rest_inner b n j s e h k))
+  pub lines_inner : {k : Option Content} → k ≡ (row_at (row_start b j) s).content → k ≡ None → lines_from i b s n ≡ lines_from i b s j
+  lines_inner f k = sym (ap (lines_of i (tree_in b s)) (rest_inner b n j s e h (sym f ∙ k)))
 
   all_leaves : leaves (tree_in b s) ≡ leaves (rest b j s) ++ leaves (tree_at b.base j s)
   all_leaves = ap leaves (tree_cut b.base j (b.rows - j) b.rows s (omega arith)) ∙ leaves_append (tree_at b.base j s) (rest b j s)
@@ -119,3 +123,44 @@ line_most = fixed_size + id_most + 2 * 20 + hashes_most * next_size + (size labe
 pub line_most_lem : (i : ℕ) (n : RevNumber) (k : ℕ) (c : Content) → CanSize i k → line_size i n k c ≤ line_most
 unfolding line_size
 line_most_lem i n k c h = omega (arith, decimal_longest n.0, end_most c, h.id, h.few)
+
+-- the lines of the rows from n on have this size
+pub record LinesSized (i : Id) (b : Body) (s : List ℕ) (n size : ℕ) : Type 0 where
+  pub is : size ≡ length (lines_from i b s n)
+  pub most : size ≤ line_most * (b.rows - n)
+
+pub sized_none : (i : Id) (b : Body) (s : List ℕ) → LinesSized i b s b.rows 0
+sized_none i b s = let e = ap length (lines_none i b s) in record { is = omega arith; most = omega arith }
+
+module _ {i : Id} {b : Body} {s : List ℕ} {n size : ℕ} (sized : LinesSized i b s n size) where
+  pub sized_all : n ≡ 0 → size ≡ length (lines_text i (tree_in b s))
+  sized_all e = sized.is ∙ ap length (lines_all i b s n e)
+
+  module _ (j : ℕ) (e : n ≡ j + 1) (h : n ≤ b.rows) where
+    pub sized_inner : {k : Option Content} → k ≡ (row_at (row_start b j) s).content → k ≡ None → LinesSized i b s j size
+    sized_inner f k =
+        let m = sized.most in
+        record { is = sized.is ∙ ap length (lines_inner i b s n j e h f k); most = omega arith }
+
+    module _ (can : CanPut b s i) {v : Revision} {c : Content} (row : LeafRow b s j v c) {m : ℕ} (path : m ≡ length (path_of (tree_in b s) v)) where
+      pub has : HasContent (tree_in b s) v c
+      has = leaf_here i b s n j e h row can.rows.is
+
+      pub can_size : CanSize (length i) m
+      can_size = let f = can.few (leaf_of v c) has in record { id = can.id; few = omega arith }
+
+      line_most' : line_size (length i) v.number m c ≤ line_most
+      line_most' = line_most_lem (length i) v.number m c can_size
+
+      pub sized_fits : {k : ℕ} → k ≡ line_size (length i) v.number m c → size + k < 18446744073709551616
+      sized_fits f = let l = line_most' in let q = sized.most in let r = can.most in omega arith
+
+      pub sized_leaf : {k : ℕ} → k ≡ line_size (length i) v.number m c → LinesSized i b s j (size + k)
+      sized_leaf f =
+          let more = simp length-append at (ap length (lines_leaf i b s n j e h row)) in
+          let line = line_size_lem can.rows.is v c has i in
+          let n = ap (λ (x : ℕ). line_size (length i) v.number x c) path in
+          let l = line_most' in
+          let q = sized.is in
+          let r = sized.most in
+          record { is = omega arith; most = omega arith }

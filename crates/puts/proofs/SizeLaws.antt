@@ -2,7 +2,7 @@
 use mathlib.Core.Path.{◌≡◌, refl}
 use mathlib.Core.List.{List, [], ◌∷◌, map}
 use mathlib.Core.Logic.{inl, inr}
-use mathlib.Core.Option.{Option, none, some}
+use Rattle.std.specs.Prelude.{Option, None, Some}
 use Prim.Native.Nat.{◌*◌, ◌<◌, ◌≤◌}
 use native.Mathlib.Omega.{arith}
 use lib.ListN.{length, length-append}
@@ -35,8 +35,8 @@ unfolding tree_of lines_text leaves join document_of
 lines_most r k i = go (document_of r i) refl
   where
     go : (o : Option Document) → document_of r i ≡ o → length (join (map (leaf_line i (tree_in o)) (leaves (tree_in o)))) < 9223372036854775808
-    go none e = omega arith
-    go (some d) e =
+    go None e = omega arith
+    go (Some d) e =
         let m = find_in bytes_order r.documents i d e in
         let h = k.documents i d e in
         let each = joined_most i d.tree (leaves d.tree) (λ a n.

@@ -1,8 +1,8 @@
 -- A leaf's line in the parts that are written one after the other, and what a caller shows to have them written.
-use Rattle.std.specs.Prelude.{◌≡◌, Bool, true, List, [], ◌∷◌, ◌++◌, ℕ, ◌+◌, ◌-◌, ◌*◌, ◌/◌, ◌≤◌, ◌<◌, length}
-use Rattle.std.proofs.Math.Option.{none, some}
+use Rattle.std.specs.Prelude.{◌≡◌, Bool, true, List, [], ◌∷◌, ◌++◌, ℕ, ◌+◌, ◌-◌, ◌*◌, ◌/◌, ◌≤◌, ◌<◌, length, is_some}
+use Rattle.std.specs.Prelude.{Result, Ok, Err}
+use Rattle.std.specs.Prelude.{None, Some}
 use Prim.Native.String.{String}
-use Rattle.rules.specs.declared.Answered.{Answered}
 use Rattle.rules.specs.declared.Content.{Content}
 use Rattle.rules.specs.declared.Content.TheVariants.{Live, Deleted}
 use Rattle.rules.specs.declared.Refusal.{Refusal}
@@ -22,8 +22,6 @@ use Rattle.tree.specs.Table.{tree_in, row_start}
 use Rattle.store.specs.Storage.{replica_of}
 use Rattle.reads.specs.Reads.{CanRead}
 use Rattle.lines.specs.Put.{leaf_line, lines_text, put_refusals}
-use Rattle.puts.specs.declared.Opened.{Opened}
-use Rattle.puts.specs.declared.Opened.TheVariants.{At, Refused}
 
 -- ---- the words between a line's id, numbers and hashes
 
@@ -103,7 +101,7 @@ pub record CanSize (i k : ℕ) : Type 0 where
 
 -- of the first n rows each numbered above 1 has a known parent
 abbrev pub Rooted : Body → List ℕ → ℕ → Type 0
-Rooted b s n = (j : ℕ) → j < n → 1 < (row_at (row_start b j) s).rev.number.0 → (row_at (row_start b j) s).known ≡ true
+Rooted b s n = (j : ℕ) → j < n → 1 < (row_at (row_start b j) s).rev.number.0 → is_some (row_at (row_start b j) s).parent ≡ true
 
 pub record CanCount (b : Body) (s : List ℕ) (v : Revision) (r : Bool) : Type 0 where
   pub rows : CanRead b s
@@ -141,18 +139,18 @@ pub record CanPutLines (b : Body) (s : List ℕ) (i : Id) (out : List ℕ) : Typ
   pub room : length (lines_text i (tree_in b s)) ≤ length out
 
 -- the lines with the lent buffer: 14, or they stand at its front
-unfoldable pub lines_in : Id → Tree → List ℕ → Answered × List ℕ
+unfoldable pub lines_in : Id → Tree → List ℕ → Result ℕ Refusal × List ℕ
 lines_in i t out = let bytes = lines_text i t in reads [] (length bytes) bytes out
 
 -- ---- the document
 
 -- the rows b are those of the document i, which can be put out
 pub record IsOpen (s : List ℕ) (i : Id) (b : Body) : Type 0 where
-  pub refusals : first_that (put_refusals (replica_of s) i) ≡ none
+  pub refusals : first_that (put_refusals (replica_of s) i) ≡ None
   pub can : CanPut b s i
   pub tree : tree_in b s ≡ tree_of (replica_of s) i
 
 -- "Putting out checks 1, 12, 43"
-pub record Opens (s : List ℕ) (i : Id) (r : Opened) : Type 0 where
-  pub at : (b : Body) → r ≡ At b → IsOpen s i b
-  pub refused : (n : Refusal) → r ≡ Refused n → first_that (put_refusals (replica_of s) i) ≡ some n
+pub record Opens (s : List ℕ) (i : Id) (r : Result Body Refusal) : Type 0 where
+  pub at : (b : Body) → r ≡ Ok b → IsOpen s i b
+  pub refused : (n : Refusal) → r ≡ Err n → first_that (put_refusals (replica_of s) i) ≡ Some n

@@ -1,6 +1,6 @@
 // Puts: a document's leaves put out as lines of JSON, into a buffer that the caller lends.
-// It uses the crates rules, text, tree, store, lines and fields, and the laws of the crates octets, union and
-// reads.
+// It uses the crates rules, text, tree, store, lines, fields and reads, and the laws of the crates octets and
+// union.
 #![tactic(auto)]
 
 mod line;
@@ -17,37 +17,24 @@ ghost use Rattle.puts.specs.Puts.{CanPut, CanPutLines, Opens, lines_in};
 
 use fields::is_unwritable;
 use line::put_line;
-use rules::{Answered, HASH, PATH_HASHES, Refusal};
+use reads::document;
+use rules::{HASH, PATH_HASHES, Refusal};
 use size::lines_size;
-use store::read::{bad_id, body_of, find_document};
-use tree::row::Kind;
-use tree::table::{Body, Found, kind_at, rev_at};
+use tree::table::{Body, kind_at, rev_at};
 
 // The bytes of the longest path.
 const PATH: usize = PATH_HASHES * HASH;
 
-// The rows of a document that can be put out, or why it can't be.
-#[derive(Clone, Copy)]
-enum Opened {
-    At(Body),
-    Refused(Refusal),
-}
-
 // "Putting out checks 1, 12, 43".
-fn rows_of(b: &[u8], id: &[u8]) -> Opened
+fn rows_of(b: &[u8], id: &[u8]) -> Result<Body, Refusal>
     requires { IsStored b.now }
     ensures { Opens b.now id.now result }
 {
-    if bad_id(id) {
-        return Opened::Refused(Refusal::BadId);
-    }
-    let Found::At(d) = find_document(b, id) else {
-        return Opened::Refused(Refusal::NoDocument);
-    };
+    let body = document::rows_of(b, id)?;
     if is_unwritable(id) {
-        return Opened::Refused(Refusal::UnwritableId);
+        return Err(Refusal::UnwritableId);
     }
-    Opened::At(body_of(b, d))
+    Ok(body)
 }
 
 // Writes a line for each leaf at the front of out, from the last row down.
@@ -56,51 +43,40 @@ fn put_lines(b: &[u8], body: Body, id: &[u8], out: &mut [u8]) -> usize
     ensures { Put (lines_text id.now (tree_in body b.now)) out.old 0 result out.new }
 {
     let mut path = [0u8; PATH];
-    let mut i = body.rows;
     let mut at = 0;
-    while 0 < i {
-        i -= 1;
-        match kind_at(b, body, i) {
-            Kind::Inner => {}
-            Kind::Leaf(content) => {
-                let rev = rev_at(b, body, i);
-                at = put_line(b, body, id, rev, content, &mut path, out, at);
-            }
+    for i in (0..body.rows).rev() {
+        if let Some(content) = kind_at(b, body, i) {
+            let rev = rev_at(b, body, i);
+            at = put_line(b, body, id, rev, content, &mut path, out, at);
         }
     }
     at
 }
 
 // The lines of the leaves among the rows. They are counted before the first is written.
-fn answer_lines(b: &[u8], body: Body, id: &[u8], out: &mut [u8]) -> Answered
+fn answer_lines(b: &[u8], body: Body, id: &[u8], out: &mut [u8]) -> Result<usize, Refusal>
     requires { CanPut body b.now id.now }
     ensures { Does (lines_in id.now (tree_in body b.now) out.old) result out.new }
 {
     let size = lines_size(b, body, id);
     if out.len() < size {
-        return Answered::Refused(Refusal::ShortBuffer);
+        return Err(Refusal::ShortBuffer);
     }
-    Answered::Count(put_lines(b, body, id, out))
+    Ok(put_lines(b, body, id, out))
 }
 
 // How many bytes `put_out` would write, so that a caller can lend enough.
-pub fn put_out_size(b: &[u8], id: &[u8]) -> Answered
+pub fn put_out_size(b: &[u8], id: &[u8]) -> Result<usize, Refusal>
     requires { IsStored b.now }
     ensures { result ≡ put_out_size (replica_of b.now) id.now }
 {
-    match rows_of(b, id) {
-        Opened::At(body) => Answered::Count(lines_size(b, body, id)),
-        Opened::Refused(n) => Answered::Refused(n),
-    }
+    Ok(lines_size(b, rows_of(b, id)?, id))
 }
 
 // Writes the lines of a document's leaves, the highest first, and answers how many bytes they are.
-pub fn put_out(b: &[u8], id: &[u8], out: &mut [u8]) -> Answered
+pub fn put_out(b: &[u8], id: &[u8], out: &mut [u8]) -> Result<usize, Refusal>
     requires { IsStored b.now }
     ensures { Does (put_out (replica_of b.now) id.now out.old) result out.new }
 {
-    match rows_of(b, id) {
-        Opened::At(body) => answer_lines(b, body, id, out),
-        Opened::Refused(n) => Answered::Refused(n),
-    }
+    answer_lines(b, rows_of(b, id)?, id, out)
 }

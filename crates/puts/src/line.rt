@@ -30,15 +30,10 @@ fn put_next(s: &mut [u8], at: usize, hashes: &[u8]) -> usize
     requires { at + length hashes.now / hash_size * next_size ≤ length s.old }
     ensures { Put (next_texts (hashes_in hashes.now)) s.old at result s.new }
 {
-    let count = hashes.len() / HASH;
     let mut next = at;
-    let mut k = 0;
-    while k < count {
-        let from = k * HASH;
-        let to = from + HASH;
+    for hash in hashes.chunks_exact(HASH) {
         let h = put_word(s, next, &NEXT);
-        next = put_hex(s, h, &hashes[from..to]);
-        k += 1;
+        next = put_hex(s, h, hash);
     }
     next
 }

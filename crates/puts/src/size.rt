@@ -9,7 +9,6 @@ use crate::words::{DELETED, END, IDS, LABEL, NEXT, REV, REVISIONS, START};
 use rules::{Content, HASH, RevNumber, Revision};
 use text::{DASH, decimal_size};
 use tree::path::path_count;
-use tree::row::Kind;
 use tree::table::{Body, kind_at, rev_at, row_at};
 
 // A hash with the word before it. Hex has two digits a byte.
@@ -44,16 +43,12 @@ fn is_rooted(b: &[u8], body: Body) -> bool
     requires { Within body b.now }
     ensures { result ≡ true → Rooted body b.now body.rows }
 {
-    let rows = body.rows;
-    let mut i = 0;
-    while i < rows {
+    for i in 0..body.rows {
         let row = row_at(b, body, i);
-        i += 1;
-        if row.known {
+        if row.parent.is_some() {
             continue;
         }
-        let rev = row.rev;
-        let number = rev.number;
+        let number = row.rev.number;
         if 1 < number.0 {
             return false;
         }
@@ -78,20 +73,13 @@ pub(crate) fn lines_size(b: &[u8], body: Body, id: &[u8]) -> usize
     requires { CanPut body b.now id.now }
     ensures { result ≡ length (lines_text id.now (tree_in body b.now)) }
 {
-    let n = id.len();
     let rooted = is_rooted(b, body);
-    let mut i = body.rows;
     let mut size = 0;
-    while 0 < i {
-        i -= 1;
-        match kind_at(b, body, i) {
-            Kind::Inner => {}
-            Kind::Leaf(content) => {
-                let rev = rev_at(b, body, i);
-                let number = rev.number;
-                let hashes = hashes_of(b, body, rev, rooted);
-                size += line_size(n, number, hashes, content);
-            }
+    for i in (0..body.rows).rev() {
+        if let Some(content) = kind_at(b, body, i) {
+            let rev = rev_at(b, body, i);
+            let hashes = hashes_of(b, body, rev, rooted);
+            size += line_size(id.len(), rev.number, hashes, content);
         }
     }
     size

@@ -3,6 +3,7 @@ pub mod TreeLaws
 pub mod AnswerLaws
 pub mod OpenLaws
 pub mod DocumentLaws
+pub mod ChunkLaws
 pub mod MissingLaws
 pub mod NextLaws
 pub mod LowestLaws

@@ -1,16 +1,16 @@
 -- Missing revisions: the bytes one by one, and the call's outcomes. Assumes nothing.
 use mathlib.Core.Path.{◌≡◌, refl, sym, ap, ◌∙◌}
+use Rattle.std.specs.Prelude.{Ok, Err}
 use mathlib.Core.Bool.{Bool, true, false, not}
 use mathlib.Core.List.{List, [], ◌∷◌, ◌++◌, map}
-use mathlib.Core.Option.{none}
+use Rattle.std.specs.Prelude.{None}
 use Prim.Native.Nat.{ℕ, ◌+◌, ◌*◌, ◌/◌, ◌%◌, ◌≤◌, ◌<◌}
-use native.Mathlib.Nat.{zero-add, add-zero}
+use native.Mathlib.Nat.{zero-add}
 use native.Mathlib.Omega.{arith}
 use borrow.Author.Tests.{eq-eqb, ne_eqb}
 use lib.Dec.{eqb}
-use lib.ListN.{length, set, take, drop, length-drop}
+use lib.ListN.{length, set, drop, length-drop}
 use lib.Seq.{take_all}
-use Rattle.rules.specs.declared.Answered.TheVariants.{Count, Refused}
 use Rattle.rules.specs.declared.Refusal.{Refusal}
 use Rattle.rules.specs.declared.Refusal.TheVariants.{BadId, BadAsked, ShortBuffer}
 use Rattle.rules.specs.declared.Revision.{Revision}
@@ -22,7 +22,7 @@ use Rattle.rules.specs.Read.{asked_size, asked_rev, missing_byte, missing, read_
 use Rattle.rules.specs.Replica.{Id, Tree, Replica, revision, tree_of}
 use Rattle.rules.specs.Room.{hash_size}
 use Rattle.rules.specs.Write.{bad_id}
-use Rattle.rules.proofs.ByteLaws.{length_part, part-part, pieces_add, length-pieces}
+use Rattle.rules.proofs.ByteLaws.{pieces_add, length-pieces}
 use Rattle.rules.proofs.OrderLaws.{rev_path}
 use Rattle.octets.specs.Splice.{splice}
 use Rattle.octets.proofs.SpliceLaws.{splice_none, splice_behind}
@@ -32,16 +32,10 @@ use Rattle.reads.proofs.AnswerLaws.{reads_past, reads_refused, reads_short, read
 
 -- ---- one asked revision
 
-pub asked_fields : (s : List ℕ) (at n : ℕ) (h : List ℕ) → at + asked_size ≤ length s → n ≡ value (part at hash_in s) → h ≡ part (at + hash_in) hash_size s
-    → revision n h ≡ asked_rev (part at asked_size s)
+pub asked_fields : (s : List ℕ) (n : ℕ) (h : List ℕ) → length s ≡ asked_size → n ≡ value (part 0 hash_in s) → h ≡ part hash_in hash_size s
+    → revision n h ≡ asked_rev s
 unfolding asked_rev part
-asked_fields s at n h r e f =
-    let x : List ℕ = part at asked_size s in
-    let l : length x ≡ asked_size = length_part at asked_size s r in
-    let a : take hash_in x ≡ part at hash_in s = part-part 0 hash_in at asked_size s (omega arith) ∙ rw (add-zero at) in
-    let b : drop hash_in x ≡ part (at + hash_in) hash_size s
-    = sym (take_all hash_size (drop hash_in x) (simp length-drop (omega arith))) ∙ part-part hash_in hash_size at asked_size s (omega arith) in
-    rev_path _ _ (e ∙ ap value (sym a)) (f ∙ sym b)
+asked_fields s n h l e f = rev_path _ _ e (f ∙ take_all hash_size (drop hash_in s) (simp length-drop (omega arith)))
 
 -- ---- the bytes of the first i
 
@@ -86,26 +80,26 @@ module _ (r : Replica) (i : Id) (asked out : List ℕ) where
   abbrev t : Tree
   t = tree_of r i
 
-  none_holds : bad_id i ≡ false → length asked % asked_size ≡ 0 → first_that refusals ≡ none
+  none_holds : bad_id i ≡ false → length asked % asked_size ≡ 0 → first_that refusals ≡ None
   unfolding first_that
   none_holds e h = rw (e, eq-eqb _ _ h) refl
 
-  pub missing_bad_id : bad_id i ≡ true → Does (read_missing r i asked out) (Refused BadId) out
+  pub missing_bad_id : bad_id i ≡ true → Does (read_missing r i asked out) (Err BadId) out
   unfolding read_missing first_that
   missing_bad_id e = reads_refused refusals [] (length (missing t asked)) (missing t asked) out BadId (rw e refl)
 
-  pub missing_bad_asked : bad_id i ≡ false → (length asked % asked_size ≡ 0 → ⊥) → Does (read_missing r i asked out) (Refused BadAsked) out
+  pub missing_bad_asked : bad_id i ≡ false → (length asked % asked_size ≡ 0 → ⊥) → Does (read_missing r i asked out) (Err BadAsked) out
   unfolding read_missing first_that
   missing_bad_asked e h = reads_refused refusals [] (length (missing t asked)) (missing t asked) out BadAsked (rw (e, ne_eqb _ _ h) refl)
 
-  pub missing_short : bad_id i ≡ false → length asked % asked_size ≡ 0 → length out < length asked / asked_size → Does (read_missing r i asked out) (Refused ShortBuffer) out
+  pub missing_short : bad_id i ≡ false → length asked % asked_size ≡ 0 → length out < length asked / asked_size → Does (read_missing r i asked out) (Err ShortBuffer) out
   unfolding read_missing
   missing_short e h l =
       rw (reads_past refusals [] (length (missing t asked)) (missing t asked) out (none_holds e h))
       (reads_short (length (missing t asked)) (missing t asked) out (rw (length-missing t asked) l))
 
   pub missing_answers : {n : ℕ} {u : Tree} {after : List ℕ} → bad_id i ≡ false → length asked % asked_size ≡ 0 → n ≡ length asked / asked_size → n ≤ length out
-      → u ≡ t → after ≡ splice out 0 (missing u asked) → Does (read_missing r i asked out) (Count n) after
+      → u ≡ t → after ≡ splice out 0 (missing u asked) → Does (read_missing r i asked out) (Ok n) after
   unfolding read_missing
   missing_answers {n} {u} {after} e h q l same w =
       let z = length-missing t asked in

@@ -1,8 +1,9 @@
 -- A document found or not, its tree, and the refusals 1 and 12. Assumes nothing.
 use mathlib.Core.Path.{◌≡◌, refl, sym, ap, ◌∙◌, subst}
+use Rattle.std.specs.Prelude.{Result, Ok, Err}
 use mathlib.Core.Bool.{true, false}
 use mathlib.Core.List.{List}
-use mathlib.Core.Option.{Option, none, some}
+use Rattle.std.specs.Prelude.{Option, None, Some}
 use Prim.Native.Nat.{ℕ, ◌<◌}
 use native.Mathlib.Omega.{arith}
 use lib.ListN.{length}
@@ -14,18 +15,17 @@ use Rattle.rules.specs.Order.{order_rev}
 use Rattle.rules.specs.Read.{document_refusals}
 use Rattle.rules.specs.Replica.{Id, Document, Replica, document_of, tree_of, tree_in, IsDocument, IsTree}
 use Rattle.rules.specs.Write.{bad_id}
+use Rattle.rules.proofs.MapLaws.{none≢some, some_inj}
 use Rattle.rules.proofs.OrderLaws.{bytes_order}
-use Rattle.tree.specs.declared.table.Found.TheVariants.{At, Gap}
 use Rattle.tree.specs.declared.table.Body.{Body}
 use Rattle.tree.specs.Table.{Searchable}
 use Rattle.store.specs.Storage.{replica_of, IsStored}
-use Rattle.store.specs.Documents.{documents_of, document_at, no_document, place_of_id, IsBody, Shows}
+use Rattle.store.specs.Documents.{documents_of, document_at, no_document, place_of_id, body_at, IsBody, Shows}
 use Rattle.store.proofs.EntryLaws.{all_at}
 use Rattle.store.proofs.FitLaws.{all_found, stored_laid}
 use Rattle.store.proofs.PlaceLaws.{id_found, id_gap}
-use Rattle.store.proofs.BodyLaws.{found_body, body_shows}
-use Rattle.reads.specs.declared.document.Opened.TheVariants as opened
-use Rattle.reads.specs.Reads.{CanRead, IsOpen, Opens}
+use Rattle.store.proofs.BodyLaws.{found_body, body_shows, body_is}
+use Rattle.reads.specs.Reads.{CanRead, IdChecked, IsOpen, Opens}
 use Rattle.reads.specs.Next.{HasTree}
 
 -- ---- the documents of a replica in a buffer
@@ -43,8 +43,8 @@ unfolding tree_of
 tree_ascends s i h = go (document_of (replica_of s) i) refl
   where
     go : (o : Option Document) → document_of (replica_of s) i ≡ o → Ascending order_rev (tree_in o)
-    go none e = tt
-    go (some d) e = (h.replica.documents i d e).tree.ascending
+    go None e = tt
+    go (Some d) e = (h.replica.documents i d e).tree.ascending
 
 pub has_tree : (s : List ℕ) (d : ℕ) → IsStored s → d < length (documents_of s) → HasTree s d
 has_tree s d h l = record { document = record { laid = stored_laid s h; within = l }; is = (each_document s d h l).tree }
@@ -60,23 +60,37 @@ tree_rows s d b h k =
 pub shown_rows : (s : List ℕ) (i : Id) (b : Body) → IsStored s → Shows s b (tree_of (replica_of s) i) → Searchable b s
 shown_rows s i b h w = record { within = w.within; ascending = rw w.tree (tree_ascends s i h) }
 
+-- ---- 1
+
+pub id_refused : {i : Id} → bad_id i ≡ true → IdChecked i (Err BadId)
+id_refused e = record {
+  good = λ q. absurd (let z : ◌≡◌ {A = ℕ} 0 1 = cc in omega arith);
+  refused = λ n q. (e, cc);
+}
+
+pub id_good : {i : Id} → bad_id i ≡ false → IdChecked i (Ok tt)
+id_good e = record {
+  good = λ q. e;
+  refused = λ n q. absurd (let z : ◌≡◌ {A = ℕ} 0 1 = cc in omega arith);
+}
+
 -- ---- 1 and 12
 
 module _ (r : Replica) (i : Id) where
-  pub refused_id : bad_id i ≡ true → first_that (document_refusals r i) ≡ some BadId
+  pub refused_id : bad_id i ≡ true → first_that (document_refusals r i) ≡ Some BadId
   unfolding first_that document_refusals
   refused_id e = rw e refl
 
-  pub refused_document : bad_id i ≡ false → document_of r i ≡ none → first_that (document_refusals r i) ≡ some NoDocument
+  pub refused_document : bad_id i ≡ false → document_of r i ≡ None → first_that (document_refusals r i) ≡ Some NoDocument
   unfolding first_that document_refusals
   refused_document e d = rw (e, d) refl
 
-  pub refused_none : (x : Document) → bad_id i ≡ false → document_of r i ≡ some x → first_that (document_refusals r i) ≡ none
+  pub refused_none : (x : Document) → bad_id i ≡ false → document_of r i ≡ Some x → first_that (document_refusals r i) ≡ None
   unfolding first_that document_refusals
   refused_none x e d = rw (e, d) refl
 
 module _ (s : List ℕ) (i : Id) (d : ℕ) (good : bad_id i ≡ false) where
-  pub opens : (b : Body) → IsStored s → place_of_id 0 i (documents_of s) ≡ At d → IsBody s d b → IsOpen s i b
+  pub opens : (b : Body) → IsStored s → place_of_id 0 i (documents_of s) ≡ Ok d → IsBody s d b → IsOpen s i b
   unfolding document_of
   opens b h e k =
       let f = (id_found d i (documents_of s) e).found in
@@ -84,22 +98,36 @@ module _ (s : List ℕ) (i : Id) (d : ℕ) (good : bad_id i ≡ false) where
         refusals = refused_none (replica_of s) i (document_at (documents_of s) d).1 good f;
         rows = tree_rows s d b (has_tree s d h k.document.within) k;
         tree = (found_body s i d b e k).shows.tree;
+        place = d;
+        found = e;
+        body = k;
       }
 
-  pub opens_none : place_of_id 0 i (documents_of s) ≡ Gap d → first_that (document_refusals (replica_of s) i) ≡ some NoDocument
+  pub opens_none : place_of_id 0 i (documents_of s) ≡ Err d → first_that (document_refusals (replica_of s) i) ≡ Some NoDocument
   unfolding document_of
   opens_none e = refused_document (replica_of s) i good (id_gap d i (documents_of s) e).found
 
 -- ---- what was opened
 
-pub opens_at : {s : List ℕ} {i : Id} {b : Body} → IsOpen s i b → Opens s i (opened.At b)
+pub opens_at : {s : List ℕ} {i : Id} {b : Body} → IsOpen s i b → Opens s i (Ok b)
 opens_at {s} {i} {b} h = record {
   at = λ c e. let z : b ≡ c = cc in subst (λ (x : Body). IsOpen s i x) z h;
   refused = λ n e. absurd (let z : ◌≡◌ {A = ℕ} 0 1 = cc in omega arith);
 }
 
-pub opens_refused : {s : List ℕ} {i : Id} (n : Refusal) → first_that (document_refusals (replica_of s) i) ≡ some n → Opens s i (opened.Refused n)
+pub opens_refused : {s : List ℕ} {i : Id} (n : Refusal) → first_that (document_refusals (replica_of s) i) ≡ Some n → Opens s i (Err n)
 opens_refused n h = record {
   at = λ c e. absurd (let z : ◌≡◌ {A = ℕ} 0 1 = cc in omega arith);
-  refused = λ m e. let z : n ≡ m = cc in h ∙ ap some z;
+  refused = λ m e. let z : n ≡ m = cc in h ∙ ap Some z;
 }
+
+-- it is opened in one way
+pub opens_one : {s : List ℕ} {i : Id} (q r : Result Body Refusal) → Opens s i q → Opens s i r → q ≡ r
+opens_one {s = s} (Ok b) (Ok c) o p =
+    let x = o.at b refl in
+    let y = p.at c refl in
+    let q : ◌≡◌ {A = Result ℕ ℕ} (Ok x.place) (Ok y.place) = sym x.found ∙ y.found in
+    ap Ok (body_is s x.place b x.body ∙ (ap (body_at (documents_of s)) q ∙ sym (body_is s y.place c y.body)))
+opens_one (Ok b) (Err n) o p = absurd (none≢some (sym (o.at b refl).refusals ∙ p.refused n refl))
+opens_one (Err m) (Ok c) o p = absurd (none≢some (sym (p.at c refl).refusals ∙ o.refused m refl))
+opens_one (Err m) (Err n) o p = ap Err (some_inj (sym (o.refused m refl) ∙ p.refused n refl))

@@ -2,6 +2,9 @@
 use mathlib.Core.Path.{refl}
 use Rattle.rules.specs.Outcome.{OneOutcome, nothing}
 use Rattle.rules.proofs.OutcomeLaws.{fixed, does_one}
+use Rattle.reads.proofs.OpenLaws.{opens_one}
+use Rattle.reads.proofs.document.rows_of.Kinds as rows-of
+use Rattle.reads.proofs.document.rows_of.Reads as rows-of'
 use Rattle.reads.proofs.document.winner.Kinds as winner
 use Rattle.reads.proofs.document.winner.Reads as winner'
 use Rattle.reads.proofs.document.leaves.Kinds as leaves
@@ -19,6 +22,9 @@ use Rattle.reads.proofs.replica.sequence.Kinds as sequence
 use Rattle.reads.proofs.replica.sequence.Reads as sequence'
 use Rattle.reads.proofs.replica.counts.Kinds as counts
 use Rattle.reads.proofs.replica.counts.Reads as counts'
+
+pub rows_of_outcome : OneOutcome _ rows-of.ps rows-of.r rows-of'.Asked rows-of'.Learnt nothing
+rows_of_outcome κs a x y s t h p q = (opens_one x y p q, refl)
 
 pub winner_outcome : OneOutcome _ winner.ps winner.r winner'.Asked winner'.Learnt (λ κs s. s.1.1.0.now)
 winner_outcome κs a x y s t h p q = does_one p q

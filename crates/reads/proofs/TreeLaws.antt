@@ -4,7 +4,7 @@ use mathlib.Core.Path.{◌≡◌, refl, ap, ◌∙◌}
 use mathlib.Core.Bool.{Bool, true, false}
 use mathlib.Core.List.{List, [], ◌∷◌, ◌++◌, map}
 use mathlib.Core.Logic.{inl, inr}
-use mathlib.Core.Option.{Option, none, some}
+use Rattle.std.specs.Prelude.{Option, None, Some}
 use Prim.Native.Nat.{ℕ, zero, suc, ◌*◌, ◌≤◌, ◌<◌}
 use native.Mathlib.Omega.{arith}
 use borrow.Author.Tests.{leb-true, leb-false}
@@ -56,31 +56,31 @@ top_row x (w ∷ t) = go (top_row w t) (leb x.0.number.0 (top_row w t).0.0.numbe
         top z (inl q) = let n : z.0.number.0 ≡ x.0.number.0 = ap (λ (e : Entry). e.0.number.0) q in omega arith
         top z (inr m) = let n = r.2 z m in let l : r.0.0.number.0 < x.0.number.0 = leb-false _ _ e in omega arith
 
-highest_some : (ls : List LeafOf) (b : LeafOf) → In b ls → (a : LeafOf) × (highest ls ≡ some a)
+highest_some : (ls : List LeafOf) (b : LeafOf) → In b ls → (a : LeafOf) × (highest ls ≡ Some a)
 unfolding highest
 highest_some [] b i = absurd i
 highest_some (a ∷ ls) b i = (higher a (highest ls), refl)
 
-some_leaf : (t : Tree) (b : LeafOf) → In b (leaves t) → (a : LeafOf) × (winner t ≡ some a)
+some_leaf : (t : Tree) (b : LeafOf) → In b (leaves t) → (a : LeafOf) × (winner t ≡ Some a)
 unfolding winner
 some_leaf t b m = highest_some (leaves t) b m
 
 -- the row with the highest number has no child, so there is a leaf
-pub has_winner : (t : Tree) → IsTree t → (a : LeafOf) × (winner t ≡ some a)
+pub has_winner : (t : Tree) → IsTree t → (a : LeafOf) × (winner t ≡ Some a)
 has_winner [] h = absurd (let l = h.some_revision in omega arith)
 has_winner (x ∷ t) h = go (top_row x t)
   where
-    go : (y : Entry) × In y (x ∷ t) × ((z : Entry) → In z (x ∷ t) → z.0.number.0 ≤ y.0.number.0) → (a : LeafOf) × (winner (x ∷ t) ≡ some a)
+    go : (y : Entry) × In y (x ∷ t) × ((z : Entry) → In z (x ∷ t) → z.0.number.0 ≤ y.0.number.0) → (a : LeafOf) × (winner (x ∷ t) ≡ Some a)
     go r =
         let y = r.0 in
-        let f : find order_rev y.0 (x ∷ t) ≡ some y.1 = in_find rev_order (x ∷ t) h.ascending y r.1 in
+        let f : find order_rev y.0 (x ∷ t) ≡ Some y.1 = in_find rev_order (x ∷ t) h.ascending y r.1 in
         let childless : HasChild (x ∷ t) y.0 → ⊥
         = λ k. let l = h.lower k.0 y.0 k.1 in let n = r.2 (k.0, k.1.0) (find_in rev_order (x ∷ t) k.0 k.1.0 k.1.1) in omega arith in
         let c = (h.leaves y.0).1 ((y.1, f), childless) in
         some_leaf (x ∷ t) (leaf_of y.0 c.0) (content_leaf (x ∷ t) h.ascending (leaf_of y.0 c.0) c.1)
 
 -- the winner is a revision of the tree, with its content
-pub winner_content : (t : Tree) → IsTree t → (a : LeafOf) → winner t ≡ some a → HasContent t a.rev a.content
+pub winner_content : (t : Tree) → IsTree t → (a : LeafOf) → winner t ≡ Some a → HasContent t a.rev a.content
 winner_content t h a e = ((winner_top t h.ascending a).0 e).0
 
 -- ---- leaves
@@ -91,12 +91,12 @@ leaves_most [] = omega arith
 leaves_most (x ∷ t) = go x.1.content (leaves_most t)
   where
     go : (o : Option Content) → length (leaves t) ≤ length t → length (leaves t ++ maybe [] (λ c. leaf_of x.0 c ∷ []) o) ≤ suc (length t)
-    go none h = simp length-append (omega arith)
-    go (some c) h = simp length-append (omega arith)
+    go None h = simp length-append (omega arith)
+    go (Some c) h = simp length-append (omega arith)
 
 -- "29 bytes each"
 pub leaf_size_lem : (t : Tree) → IsTree t → (a : LeafOf) → HasContent t a.rev a.content → length (leaf_bytes a) ≡ leaf_size
-leaf_size_lem t h a c = length_leaf a.rev a.content (h.revisions a.rev (c.0, c.1)).size
+leaf_size_lem t h a c = length_leaf a (h.revisions a.rev (c.0, c.1)).size
 
 pub leaves_size : (t : Tree) → IsTree t → length (join (map leaf_bytes (leaves t))) ≡ length (leaves t) * leaf_size
 leaves_size t h =
@@ -117,9 +117,9 @@ module _ (t : Tree) (h : IsTree t) where
     where
       same : (m : ℕ) → v.number.0 ≡ suc m → (o : Option Node) → find order_rev v t ≡ o → (p : Option Revision) → parent_in o ≡ p
           → maybe [] (ancestry m t) p ≡ maybe [] (λ u. ancestry u.number.0 t u) p
-      same m e o f none q = refl
-      same m e none f (some p) q = absurd (none≢some q)
-      same m e (some n) f (some p) q =
+      same m e o f None q = refl
+      same m e None f (Some p) q = absurd (none≢some q)
+      same m e (Some n) f (Some p) q =
           let l = h.lower v p (n, f, q) in
           let z : m ≡ p.number.0 = omega arith in
           ap (λ (k : ℕ). ancestry k t p) z
@@ -132,13 +132,13 @@ module _ (t : Tree) (h : IsTree t) where
   parent_sized : (n : ℕ) (v : Revision) → ((u : Revision) → Known t u → Sized hash_size (ancestry n t u)) → Sized hash_size (maybe [] (ancestry n t) (parent_in (find order_rev v t)))
   parent_sized n v ih = go (find order_rev v t) refl
     where
-      up : (p : Option Revision) → ((u : Revision) → p ≡ some u → Known t u) → Sized hash_size (maybe [] (ancestry n t) p)
-      up none f = tt
-      up (some u) f = ih u (f u refl)
+      up : (p : Option Revision) → ((u : Revision) → p ≡ Some u → Known t u) → Sized hash_size (maybe [] (ancestry n t) p)
+      up None f = tt
+      up (Some u) f = ih u (f u refl)
 
       go : (o : Option Node) → find order_rev v t ≡ o → Sized hash_size (maybe [] (ancestry n t) (parent_in o))
-      go none f = tt
-      go (some m) f = up m.parent (λ u q. h.parents v u (m, f, q))
+      go None f = tt
+      go (Some m) f = up m.parent (λ u q. h.parents v u (m, f, q))
 
   ancestry_sized : (n : ℕ) (v : Revision) → Known t v → Sized hash_size (ancestry n t v)
   unfolding ancestry

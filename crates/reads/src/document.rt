@@ -5,132 +5,119 @@ ghost use Rattle.rules.specs.Outcome.{Does};
 ghost use Rattle.rules.specs.Read.{asked_size, asked_rev, read_winner, read_leaves, read_path, read_missing};
 ghost use Rattle.tree.specs.Table.{tree_in, Searchable};
 ghost use Rattle.store.specs.Storage.{replica_of, IsStored};
-ghost use Rattle.reads.specs.Reads.{CanRead, Opens, missing_of, winner_in, leaves_in, path_in, reading_after, CanPutMissing, MissingPut};
+ghost use Rattle.reads.specs.Reads.{CanRead, IdChecked, Opens, missing_of, winner_in, leaves_in, path_in, reading_after, CanPutMissing, MissingPut};
 
 use octets::number::get4;
 use octets::run::get_hash;
-use rules::{Answered, HASH, Refusal, RevNumber, Revision};
+use rules::{HASH, Refusal, RevNumber, Revision};
 use store::read::{bad_id, body_of, body_of_id, find_document};
 use tree::leaf::{LEAF, leaf_count, put_leaf, put_leaves, winner_of};
 use tree::path::{path_count, put_path};
-use tree::table::{Body, Found, is_missing};
+use tree::table::{Body, is_missing};
 
 // An asked revision: its number, and where its hash begins and ends.
 const ASKED_HASH_IN: usize = 4;
 
 const ASKED: usize = ASKED_HASH_IN + HASH;
 
-// The rows of a document, or why there are none to read.
-#[derive(Clone, Copy)]
-enum Opened {
-    At(Body),
-    Refused(Refusal),
+// "1", which every read of a document checks first.
+fn check_id(id: &[u8]) -> Result<(), Refusal>
+    ensures { IdChecked id.now result }
+{
+    if bad_id(id) {
+        return Err(Refusal::BadId);
+    }
+    Ok(())
 }
 
-// "Reads of a document check 1, 12".
-fn rows_of(b: &[u8], id: &[u8]) -> Opened
+// The rows of a document. "Reads of a document check 1, 12".
+pub fn rows_of(b: &[u8], id: &[u8]) -> Result<Body, Refusal>
     requires { IsStored b.now }
     ensures { Opens b.now id.now result }
 {
-    if bad_id(id) {
-        return Opened::Refused(Refusal::BadId);
-    }
-    match find_document(b, id) {
-        Found::At(d) => Opened::At(body_of(b, d)),
-        Found::Gap(_) => Opened::Refused(Refusal::NoDocument),
-    }
+    check_id(id)?;
+    let Ok(d) = find_document(b, id) else {
+        return Err(Refusal::NoDocument);
+    };
+    Ok(body_of(b, d))
 }
 
 // The winner among the rows. A tree has one, so no call answers 0.
-fn answer_winner(b: &[u8], body: Body, out: &mut [u8]) -> Answered
+fn answer_winner(b: &[u8], body: Body, out: &mut [u8]) -> Result<usize, Refusal>
     requires { CanRead body b.now }
     ensures { Does (reading_after [] (winner_in (tree_in body b.now)) out.old) result out.new }
 {
-    let w = winner_of(b, body);
-    if !w.known {
-        return Answered::Count(0);
-    }
+    let Some(leaf) = winner_of(b, body) else {
+        return Ok(0);
+    };
     if out.len() < LEAF {
-        return Answered::Refused(Refusal::ShortBuffer);
+        return Err(Refusal::ShortBuffer);
     }
-    let rev = w.rev;
-    let content = w.content;
-    put_leaf(out, 0, rev, content);
-    Answered::Count(LEAF)
+    put_leaf(out, 0, leaf);
+    Ok(LEAF)
 }
 
 // The leaves among the rows.
-fn answer_leaves(b: &[u8], body: Body, out: &mut [u8]) -> Answered
+fn answer_leaves(b: &[u8], body: Body, out: &mut [u8]) -> Result<usize, Refusal>
     requires { CanRead body b.now }
     ensures { Does (reading_after [] (leaves_in (tree_in body b.now)) out.old) result out.new }
 {
     let count = leaf_count(b, body);
     if out.len() < count * LEAF {
-        return Answered::Refused(Refusal::ShortBuffer);
+        return Err(Refusal::ShortBuffer);
     }
     put_leaves(b, body, out);
-    Answered::Count(count)
+    Ok(count)
 }
 
 // The path of a revision among the rows. It is counted before the first hash is written.
-fn answer_path(b: &[u8], body: Body, rev: Revision, out: &mut [u8]) -> Answered
+fn answer_path(b: &[u8], body: Body, rev: Revision, out: &mut [u8]) -> Result<usize, Refusal>
     requires { CanRead body b.now }
     ensures { Does (reading_after [] (path_in rev (tree_in body b.now)) out.old) result out.new }
 {
     if is_missing(b, body, rev) {
-        return Answered::Refused(Refusal::NoRevision);
+        return Err(Refusal::NoRevision);
     }
     let hashes = path_count(b, body, rev);
     if out.len() < hashes * HASH {
-        return Answered::Refused(Refusal::ShortBuffer);
+        return Err(Refusal::ShortBuffer);
     }
     put_path(b, body, rev, out, 0);
-    Answered::Count(hashes)
+    Ok(hashes)
 }
 
 // Writes the winner's 29 bytes.
-pub fn winner(b: &[u8], id: &[u8], out: &mut [u8]) -> Answered
+pub fn winner(b: &[u8], id: &[u8], out: &mut [u8]) -> Result<usize, Refusal>
     requires { IsStored b.now }
     ensures { Does (read_winner (replica_of b.now) id.now out.old) result out.new }
 {
-    match rows_of(b, id) {
-        Opened::At(body) => answer_winner(b, body, out),
-        Opened::Refused(n) => Answered::Refused(n),
-    }
+    answer_winner(b, rows_of(b, id)?, out)
 }
 
 // Writes every leaf, the highest first, and answers their count.
-pub fn leaves(b: &[u8], id: &[u8], out: &mut [u8]) -> Answered
+pub fn leaves(b: &[u8], id: &[u8], out: &mut [u8]) -> Result<usize, Refusal>
     requires { IsStored b.now }
     ensures { Does (read_leaves (replica_of b.now) id.now out.old) result out.new }
 {
-    match rows_of(b, id) {
-        Opened::At(body) => answer_leaves(b, body, out),
-        Opened::Refused(n) => Answered::Refused(n),
-    }
+    answer_leaves(b, rows_of(b, id)?, out)
 }
 
 // Writes the hashes of a revision's path, newest first, and answers their count.
-pub fn path(b: &[u8], id: &[u8], rev: Revision, out: &mut [u8]) -> Answered
+pub fn path(b: &[u8], id: &[u8], rev: Revision, out: &mut [u8]) -> Result<usize, Refusal>
     requires { IsStored b.now }
     ensures { Does (read_path (replica_of b.now) id.now rev out.old) result out.new }
 {
-    match rows_of(b, id) {
-        Opened::At(body) => answer_path(b, body, rev, out),
-        Opened::Refused(n) => Answered::Refused(n),
-    }
+    answer_path(b, rows_of(b, id)?, rev, out)
 }
 
-// The asked revision at `at`.
-fn asked_rev(asked: &[u8], at: usize) -> Revision
-    requires { at + asked_size ≤ length asked.now }
-    ensures { result ≡ asked_rev (part at asked_size asked.now) }
+// The asked revision that these bytes are.
+fn asked_rev(asked: &[u8]) -> Revision
+    requires { length asked.now ≡ asked_size }
+    ensures { result ≡ asked_rev asked.now }
 {
-    let number = get4(asked, at);
-    let hash = get_hash(asked, at + ASKED_HASH_IN);
     Revision {
-        number: RevNumber(number),
-        hash,
+        number: RevNumber(get4(asked, 0)),
+        hash: get_hash(asked, ASKED_HASH_IN),
     }
 }
 
@@ -142,36 +129,31 @@ fn missing_byte(b: &[u8], body: Body, rev: Revision) -> u8
     if is_missing(b, body, rev) { 1 } else { 0 }
 }
 
-// Writes a byte for each asked revision.
+// Writes a byte for each asked revision. By its index: behind a `zip` with out's bytes the library says nothing
+// of what is written.
 fn put_missing(b: &[u8], body: Body, asked: &[u8], out: &mut [u8])
     requires { CanPutMissing body b.now asked.now out.old }
     ensures { MissingPut (tree_in body b.now) asked.now out.old out.new }
 {
-    let count = asked.len() / ASKED;
-    let mut i = 0;
-    while i < count {
-        let rev = asked_rev(asked, i * ASKED);
-        out[i] = missing_byte(b, body, rev);
-        i += 1;
+    for (i, rev) in asked.chunks_exact(ASKED).enumerate() {
+        out[i] = missing_byte(b, body, asked_rev(rev));
     }
 }
 
 // Writes a byte for each asked revision, 0 known and 1 missing, and answers their count.
-pub fn missing(b: &[u8], id: &[u8], asked: &[u8], out: &mut [u8]) -> Answered
+pub fn missing(b: &[u8], id: &[u8], asked: &[u8], out: &mut [u8]) -> Result<usize, Refusal>
     requires { IsStored b.now }
     ensures { Does (read_missing (replica_of b.now) id.now asked.now out.old) result out.new }
 {
-    if bad_id(id) {
-        return Answered::Refused(Refusal::BadId);
-    }
+    check_id(id)?;
     if asked.len() % ASKED != 0 {
-        return Answered::Refused(Refusal::BadAsked);
+        return Err(Refusal::BadAsked);
     }
     let revisions = asked.len() / ASKED;
     if out.len() < revisions {
-        return Answered::Refused(Refusal::ShortBuffer);
+        return Err(Refusal::ShortBuffer);
     }
     let body = body_of_id(b, id);
     put_missing(b, body, asked, out);
-    Answered::Count(revisions)
+    Ok(revisions)
 }

@@ -1,23 +1,20 @@
 -- Every call says something that its result holds, and where it refuses it leaves what was lent. Assumes nothing.
 use mathlib.Core.Path.{◌≡◌, refl, sym, ap, ◌∙◌}
+use Rattle.rules.specs.declared.Change.{Change}
+use Rattle.std.specs.Prelude.{Result, Ok, Err}
 use mathlib.Core.Bool.{Bool, true, false}
 use mathlib.Core.List.{List, [], ◌∷◌, ◌++◌, map}
-use mathlib.Core.Option.{Option, none, some}
+use Rattle.std.specs.Prelude.{Option, None, Some}
 use Prim.Native.Nat.{ℕ, zero, suc, ◌+◌, ◌*◌, ◌<◌, ◌≤◌}
 use native.Mathlib.Omega.{arith}
 use borrow.Author.Tests.{le-leb, lt-leb, ltb-false}
 use lib.Dec.{eqb, ltb}
 use lib.ListN.{length, length-append}
-use Rattle.rules.specs.declared.Answered.TheVariants as answered
-use Rattle.rules.specs.declared.Changes.{Changes}
-use Rattle.rules.specs.declared.Changes.TheVariants as changes
 use Rattle.rules.specs.declared.Fault.{Fault}
 use Rattle.rules.specs.declared.Refusal.{Refusal}
 use Rattle.rules.specs.declared.Refusal.TheVariants.{ShortBuffer}
 use Rattle.rules.specs.declared.Revision.{Revision}
-use Rattle.rules.specs.declared.Edited.TheVariants as edited
 use Rattle.rules.specs.declared.Outcome.TheVariants.{Changed, Unchanged}
-use Rattle.rules.specs.declared.Written.TheVariants as written
 use Rattle.rules.specs.Answer.{Numbered, accepted, refused, written_number, edited_number, answered_number, loaded_number}
 use Rattle.rules.specs.Bytes.{join}
 use Rattle.rules.specs.Choice.{pick, maybe, first_that}
@@ -41,7 +38,7 @@ use Rattle.store.specs.Storage.{stored, replica_of, IsStored}
 use Rattle.codec.specs.Codec.{load_bytes}
 use Rattle.reads.proofs.AnswerLaws.{first_past, first_some}
 use Rattle.refile.specs.Boundary.{refused_from, result_number, result_of, CCall, outcome, Calls, read_call, answering, Lent, bad_replica, bad_start, lent_house}
-use Rattle.refile.specs.Boundary.{bad_kind, bad_label, bad_flag, bad_hash, bad_no_parent, parent_house, edit_house, content_from, short_answer, changes_as, change_bytes, count_bytes}
+use Rattle.refile.specs.Boundary.{bad_kind, bad_label, bad_flag, bad_hash, bad_no_parent, parent_house, edit_house, content_from, parent_from, short_answer, changes_as, change_bytes, count_bytes}
 use Rattle.refile.specs.Boundary.{held_bytes, fresh_call, load_call, write_call, edit_call, path_call, changes_call, pull_call, sequence_call, counts_call, report_call}
 use Rattle.refile.specs.Decode.{refusal_in, value_in, decode, RangeOf, InRange, Told}
 use Rattle.refile.proofs.CallLaws.{first_both, passes, lent_stands}
@@ -74,17 +71,17 @@ HouseNumbers (t ∷ ts) = ((1 ≤ t.1) × (t.1 ≤ 106)) × HouseNumbers ts
 -- so of what a call does past its house refusals
 pub record FairCall {L : Type 0} (c : CCall L) : Type 0 where
   pub house : HouseNumbers c.house
-  pub does : first_that c.house ≡ none → Fair c.lent c.does
+  pub does : first_that c.house ≡ None → Fair c.lent c.does
 
-some_same : (a b : ℕ) → some a ≡ some b → a ≡ b
+some_same : (a b : ℕ) → Some a ≡ Some b → a ≡ b
 some_same a b e = cc
 
-house_number : (house : List (Bool × ℕ)) → HouseNumbers house → (n : ℕ) → first_that house ≡ some n → (1 ≤ n) × (n ≤ 106)
+house_number : (house : List (Bool × ℕ)) → HouseNumbers house → (n : ℕ) → first_that house ≡ Some n → (1 ≤ n) × (n ≤ 106)
 unfolding first_that
 house_number [] h n e = absurd (let z : ◌≡◌ {A = ℕ} 0 1 = cc in omega arith)
 house_number (t ∷ ts) h n e = go t.0 (house_number ts h.1 n) e
   where
-    go : (b : Bool) → (first_that ts ≡ some n → (1 ≤ n) × (n ≤ 106)) → pick b (some t.1) (first_that ts) ≡ some n → (1 ≤ n) × (n ≤ 106)
+    go : (b : Bool) → (first_that ts ≡ Some n → (1 ≤ n) × (n ≤ 106)) → pick b (Some t.1) (first_that ts) ≡ Some n → (1 ≤ n) × (n ≤ 106)
     go true ih q = let same : t.1 ≡ n = some_same t.1 n q in let k = h.0 in (omega arith, omega arith)
     go false ih q = ih q
 
@@ -103,17 +100,17 @@ module _ {L : Type 0} {c : CCall L} (f : FairCall c) where
   outcome_fair = go (first_that c.house) refl
     where
       go : (x : Option ℕ) → first_that c.house ≡ x → Fair c.lent (maybe c.does (λ n. (refused n, c.lent)) x)
-      go none e = f.does e
-      go (some n) e = let k = house_number c.house f.house n e in record { range = refused_range n k.0 k.1; left = λ z. refl }
+      go None e = f.does e
+      go (Some n) e = let k = house_number c.house f.house n e in record { range = refused_range n k.0 k.1; left = λ z. refl }
 
   -- what is accepted met no house refusal
-  outcome_past : (outcome c).0.refusal ≡ 0 → first_that c.house ≡ none
+  outcome_past : (outcome c).0.refusal ≡ 0 → first_that c.house ≡ None
   unfolding outcome
   outcome_past = go (first_that c.house) refl
     where
-      go : (x : Option ℕ) → first_that c.house ≡ x → (maybe c.does (λ n. (refused n, c.lent)) x).0.refusal ≡ 0 → x ≡ none
-      go none e z = refl
-      go (some n) e z = let k = house_number c.house f.house n e in absurd (omega arith)
+      go : (x : Option ℕ) → first_that c.house ≡ x → (maybe c.does (λ n. (refused n, c.lent)) x).0.refusal ≡ 0 → x ≡ None
+      go None e z = refl
+      go (Some n) e z = let k = house_number c.house f.house n e in absurd (omega arith)
 
   -- every call that keeps its promise tells what it did
   pub tells : {r : ℕ} {buffer : L} → Calls c r buffer → Told c r buffer
@@ -128,7 +125,7 @@ module _ {L : Type 0} {c : CCall L} (f : FairCall c) where
       }
 
 -- past the house refusals it is what the call does
-pub told_does : {L : Type 0} {c : CCall L} {r : ℕ} {buffer : L} → Told c r buffer → first_that c.house ≡ none → (decode r ≡ c.does.0) × (buffer ≡ c.does.1)
+pub told_does : {L : Type 0} {c : CCall L} {r : ℕ} {buffer : L} → Told c r buffer → first_that c.house ≡ None → (decode r ≡ c.does.0) × (buffer ≡ c.does.1)
 told_does {L} {c} t e = (t.decodes ∙ ap (λ (o : Numbered × L). o.0) (passes c e), t.calls.left ∙ ap (λ (o : Numbered × L). o.1) (passes c e))
 
 -- ---- the house refusals of a call that is lent a replica
@@ -166,17 +163,17 @@ answering_fair {L} bytes answer lent left v h = go (ltb (length answer) (length 
 
 -- ---- the reads: an accepted one fits into its buffer
 
-fits_first : (ts : List (Bool × Refusal)) (bytes out : List ℕ) → first_that (ts ++ (short_buffer bytes out ∷ [])) ≡ none → length bytes ≤ length out
+fits_first : (ts : List (Bool × Refusal)) (bytes out : List ℕ) → first_that (ts ++ (short_buffer bytes out ∷ [])) ≡ None → length bytes ≤ length out
 unfolding first_that short_buffer
 fits_first ts bytes out e = go (first_that ts) refl
   where
-    last_one : (b : Bool) → pick b (some ShortBuffer) none ≡ none → b ≡ false
+    last_one : (b : Bool) → pick b (Some ShortBuffer) None ≡ None → b ≡ false
     last_one true q = absurd (let z : ◌≡◌ {A = ℕ} 0 1 = cc in omega arith)
     last_one false q = refl
 
     go : (x : Option Refusal) → first_that ts ≡ x → length bytes ≤ length out
-    go none q = ltb-false (length out) (length bytes) (last_one (ltb (length out) (length bytes)) (sym (first_past ts (short_buffer bytes out ∷ []) q) ∙ e))
-    go (some x) q = let p = first_some ts (short_buffer bytes out ∷ []) x q in absurd (let z : ◌≡◌ {A = ℕ} 0 1 = cc in omega arith)
+    go None q = ltb-false (length out) (length bytes) (last_one (ltb (length out) (length bytes)) (sym (first_past ts (short_buffer bytes out ∷ []) q) ∙ e))
+    go (Some x) q = let p = first_some ts (short_buffer bytes out ∷ []) x q in absurd (let z : ◌≡◌ {A = ℕ} 0 1 = cc in omega arith)
 
 module _ (ts : List (Bool × Refusal)) (n : ℕ) (bytes out : List ℕ) where
   reads_fair : (length bytes ≤ length out → n < refused_from) → Fair out (answered_number (reads ts n bytes out).0, (reads ts n bytes out).1)
@@ -184,9 +181,9 @@ module _ (ts : List (Bool × Refusal)) (n : ℕ) (bytes out : List ℕ) where
   reads_fair h = go (first_that (ts ++ (short_buffer bytes out ∷ []))) refl
     where
       go : (x : Option Refusal) → first_that (ts ++ (short_buffer bytes out ∷ [])) ≡ x
-          → Fair out (answered_number (lend answered.Refused out (answered.Count n) bytes x).0, (lend answered.Refused out (answered.Count n) bytes x).1)
-      go none e = accepted_fair out _ n (h (fits_first ts bytes out e))
-      go (some x) e = rules_fair out out x refl
+          → Fair out (answered_number (lend Err out (Ok n) bytes x).0, (lend Err out (Ok n) bytes x).1)
+      go None e = accepted_fair out _ n (h (fits_first ts bytes out e))
+      go (Some x) e = rules_fair out out x refl
 
 -- leaves are no more than the bytes that they take
 pub leaves_bytes : (ls : List LeafOf) → length ls ≤ length (join (map leaf_bytes ls))
@@ -201,8 +198,8 @@ path_number zero t v = omega arith
 path_number (suc n) t v = go (parent_in (find order_rev v t)) (path_number n t)
   where
     go : (p : Option Revision) → ((u : Revision) → length (ancestry n t u) ≤ n) → length (v.hash ∷ maybe [] (ancestry n t) p) ≤ suc n
-    go none ih = omega arith
-    go (some u) ih = let h = ih u in omega arith
+    go None ih = omega arith
+    go (Some u) ih = let h = ih u in omega arith
 
 -- a read of a replica
 pub read_fair : (s : List ℕ) (us : List (Bool × ℕ)) (ts : List (Bool × Refusal)) (n : ℕ) (bytes out : List ℕ) → HouseNumbers us → (length bytes ≤ length out → n < refused_from)
@@ -222,10 +219,10 @@ report_fair image out small = record { house = tt; does = λ e. reads_fair [] _ 
 -- ---- changes, counts and the update sequence
 
 module _ (s : List ℕ) (after : ℕ) (out answer : List ℕ) where
-  changes_as_lem : (o : Changes × List ℕ) → Fair (out, answer) (changes_as out answer o)
-  changes_as_lem (changes.Next c, left) = answering_fair (change_bytes c) answer (out, answer) _ 1 (omega arith)
-  changes_as_lem (changes.NoMore, left) = accepted_fair (out, answer) _ 0 (omega arith)
-  changes_as_lem (changes.Refused n, left) = rules_fair (out, answer) _ n refl
+  changes_as_lem : (o : Result (Option Change) Refusal × List ℕ) → Fair (out, answer) (changes_as out answer o)
+  changes_as_lem (Ok (Some c), left) = answering_fair (change_bytes c) answer (out, answer) _ 1 (omega arith)
+  changes_as_lem (Ok None, left) = accepted_fair (out, answer) _ 0 (omega arith)
+  changes_as_lem (Err n, left) = rules_fair (out, answer) _ n refl
 
   pub changes_fair : FairCall (changes_call s after out answer)
   unfolding changes_call
@@ -253,8 +250,8 @@ module _ (s image : List ℕ) where
   load_as_lem = go (first_that (faults image)) refl
     where
       go : (x : Option (Fault × ℕ)) → first_that (faults image) ≡ x → Fair s (loaded_number (load_bytes s image x).0, (load_bytes s image x).1)
-      go none e = accepted_fair s _ 0 (omega arith)
-      go (some f) e =
+      go None e = accepted_fair s _ 0 (omega arith)
+      go (Some f) e =
           let n = fault_small f.0 in
           record { range = fault_range (fault_number f.0) f.1 n.0 n.1 (let m = place_most image f e in omega arith); left = λ z. refl }
 
@@ -271,12 +268,12 @@ module _ (s : List ℕ) (w : Write) where
     where
       go : (x : Option Refusal) (b : Bool)
           → Fair s (
-            written_number (settle written.Refused (replica_of s) (pick b (written.Accepted Changed, added (replica_of s) w) (written.Accepted Unchanged, replica_of s)) x).0,
-            stored (settle written.Refused (replica_of s) (pick b (written.Accepted Changed, added (replica_of s) w) (written.Accepted Unchanged, replica_of s)) x).1,
+            written_number (settle Err (replica_of s) (pick b (Ok Changed, added (replica_of s) w) (Ok Unchanged, replica_of s)) x).0,
+            stored (settle Err (replica_of s) (pick b (Ok Changed, added (replica_of s) w) (Ok Unchanged, replica_of s)) x).1,
           )
-      go none true = accepted_fair s _ 1 (omega arith)
-      go none false = accepted_fair s _ 0 (omega arith)
-      go (some x) b = rules_fair s _ x (sym is.same)
+      go None true = accepted_fair s _ 1 (omega arith)
+      go None false = accepted_fair s _ 0 (omega arith)
+      go (Some x) b = rules_fair s _ x (sym is.same)
 
 pub write_fair : (s i : List ℕ) (number : ℕ) (path : List ℕ) (kind label : ℕ) → Lent s → FairCall (write_call s i number path kind label)
 unfolding write_call bad_kind bad_label
@@ -287,52 +284,52 @@ write_fair s i number path kind label l = record {
 
 -- ---- edit: the new number is one above that of a revision
 
-no_winner : (a : LeafOf) → winner [] ≡ some a → ⊥
+no_winner : (a : LeafOf) → winner [] ≡ Some a → ⊥
 unfolding winner leaves highest
 no_winner a e = let z : ◌≡◌ {A = ℕ} 0 1 = cc in omega arith
 
 -- of a winner
-winner_number : (r : Replica) → IsReplica r → (i : Id) (a : LeafOf) → winner (tree_of r i) ≡ some a → a.rev.number.0 ≤ number_most
+winner_number : (r : Replica) → IsReplica r → (i : Id) (a : LeafOf) → winner (tree_of r i) ≡ Some a → a.rev.number.0 ≤ number_most
 unfolding tree_of
 winner_number r is i a = go (document_of r i) refl
   where
-    go : (d : Option Document) → document_of r i ≡ d → winner (tree_in d) ≡ some a → a.rev.number.0 ≤ number_most
-    go none q e = absurd (no_winner a e)
-    go (some d) q e =
+    go : (d : Option Document) → document_of r i ≡ d → winner (tree_in d) ≡ Some a → a.rev.number.0 ≤ number_most
+    go None q e = absurd (no_winner a e)
+    go (Some d) q e =
         let t = (is.documents i d q).tree in
         let c = ((winner_top d.tree t.ascending a).0 e).0 in
         (t.revisions a.rev (c.0, c.1)).most
 
 module _ (s : List ℕ) (e : Edit) where
-  parent_low : IsStored s → ((v : Revision) → e.parent ≡ some v → v.number.0 < 4294967296) → maybe 0 (λ v. v.number.0) (parent_of (replica_of s) e) < 4294967296
+  parent_low : IsStored s → ((v : Revision) → e.parent ≡ Some v → v.number.0 < 4294967296) → maybe 0 (λ v. v.number.0) (parent_of (replica_of s) e) < 4294967296
   unfolding parent_of deleted_winner
   parent_low is given = go e.parent given
     where
-      deleted : (a : LeafOf) (b : Bool) → winner (tree_of (replica_of s) e.id) ≡ some a → maybe 0 (λ v. v.number.0) (pick b (some a.rev) none) < 4294967296
+      deleted : (a : LeafOf) (b : Bool) → winner (tree_of (replica_of s) e.id) ≡ Some a → maybe 0 (λ v. v.number.0) (pick b (Some a.rev) None) < 4294967296
       deleted a true q = let m = winner_number (replica_of s) is.replica e.id a q in omega arith
       deleted a false q = omega arith
 
-      by : (x : Option LeafOf) → winner (tree_of (replica_of s) e.id) ≡ x → maybe 0 (λ v. v.number.0) (maybe none (λ w. pick (is_deletion w.content) (some w.rev) none) x) < 4294967296
-      by none q = omega arith
-      by (some a) q = deleted a (is_deletion a.content) q
+      by : (x : Option LeafOf) → winner (tree_of (replica_of s) e.id) ≡ x → maybe 0 (λ v. v.number.0) (maybe None (λ w. pick (is_deletion w.content) (Some w.rev) None) x) < 4294967296
+      by None q = omega arith
+      by (Some a) q = deleted a (is_deletion a.content) q
 
-      go : (p : Option Revision) → ((v : Revision) → p ≡ some v → v.number.0 < 4294967296) → maybe 0 (λ v. v.number.0) (maybe (deleted_winner (tree_of (replica_of s) e.id)) some p) < 4294967296
-      go none h = by (winner (tree_of (replica_of s) e.id)) refl
-      go (some v) h = h v refl
+      go : (p : Option Revision) → ((v : Revision) → p ≡ Some v → v.number.0 < 4294967296) → maybe 0 (λ v. v.number.0) (maybe (deleted_winner (tree_of (replica_of s) e.id)) Some p) < 4294967296
+      go None h = by (winner (tree_of (replica_of s) e.id)) refl
+      go (Some v) h = h v refl
 
-  edit_as : IsStored s → ((v : Revision) → e.parent ≡ some v → v.number.0 < 4294967296) → Fair s (edited_number (edit (replica_of s) e).0, stored (edit (replica_of s) e).1)
+  edit_as : IsStored s → ((v : Revision) → e.parent ≡ Some v → v.number.0 < 4294967296) → Fair s (edited_number (edit (replica_of s) e).0, stored (edit (replica_of s) e).1)
   unfolding edit new_number
   edit_as is given = go (first_that (edit_refusals (replica_of s) e))
     where
       go : (x : Option Refusal)
           → Fair s (
-            edited_number (settle edited.Refused (replica_of s) (edited.Accepted (new_number (replica_of s) e), added (replica_of s) (as_write (replica_of s) e)) x).0,
-            stored (settle edited.Refused (replica_of s) (edited.Accepted (new_number (replica_of s) e), added (replica_of s) (as_write (replica_of s) e)) x).1,
+            edited_number (settle Err (replica_of s) (Ok (new_number (replica_of s) e), added (replica_of s) (as_write (replica_of s) e)) x).0,
+            stored (settle Err (replica_of s) (Ok (new_number (replica_of s) e), added (replica_of s) (as_write (replica_of s) e)) x).1,
           )
-      go none = accepted_fair s _ _ (let m = parent_low is given in omega arith)
-      go (some x) = rules_fair s _ x (sym is.same)
+      go None = accepted_fair s _ _ (let m = parent_low is given in omega arith)
+      go (Some x) = rules_fair s _ x (sym is.same)
 
-named_low : (number : ℕ) (parent : List ℕ) (b : Bool) → number < 4294967296 → (v : Revision) → pick b (some (revision number parent)) none ≡ some v → v.number.0 < 4294967296
+named_low : (number : ℕ) (parent : List ℕ) (b : Bool) → number < 4294967296 → (v : Revision) → pick b (Some (revision number parent)) None ≡ Some v → v.number.0 < 4294967296
 named_low number parent true low v q = let n : number ≡ v.number.0 = ap (λ (o : Option Revision). maybe 0 (λ u. u.number.0) o) q in omega arith
 named_low number parent false low v q = absurd (let z : ◌≡◌ {A = ℕ} 0 1 = cc in omega arith)
 
@@ -350,7 +347,7 @@ unfolding edit_call edit_house bad_kind bad_label bad_flag bad_hash
 edit_fair s i hash kind label named number parent l low = record {
   house = lent_numbers s _ ((omega arith, omega arith), ((omega arith, omega arith), ((omega arith, omega arith), ((omega arith, omega arith), (parent_number_lem named number parent, tt)))));
   does = λ e.
-      edit_as s (edit_of i hash (content_from kind label) (eqb named 1) (revision number parent)) (lent_stands s (first_both (lent_house s) _ e).0 l)
+      edit_as s (edit_of i hash (content_from kind label) (parent_from named (revision number parent))) (lent_stands s (first_both (lent_house s) _ e).0 l)
       (named_low number parent (eqb named 1) low);
 }
 

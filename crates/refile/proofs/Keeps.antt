@@ -2,7 +2,7 @@
 use mathlib.Core.Path.{◌≡◌, refl, sym, ap, ◌∙◌, subst}
 use mathlib.Core.Bool.{Bool}
 use mathlib.Core.List.{List, ◌++◌}
-use mathlib.Core.Option.{none}
+use Rattle.std.specs.Prelude.{None}
 use Prim.Native.Nat.{ℕ}
 use lib.ListN.{length, replicate}
 use Rattle.rules.specs.Bytes.{be, value, value_from, part}
@@ -26,14 +26,14 @@ starts : (r : Replica) → (head_of (stored r)).edition ≡ 0
 unfolding stored stored_head head_of part value value_from be
 starts r = refl
 
-pub replica_passes : (s : List ℕ) → IsStored s → first_that (lent_house s) ≡ none
+pub replica_passes : (s : List ℕ) → IsStored s → first_that (lent_house s) ≡ None
 replica_passes s is =
-    none_first (lent_house s) 0
+    none_first (lent_house s)
     (lent_fine s (size_laid s (stored_laid s is)) (ap (λ (b : List ℕ). (head_of b).edition) is.same ∙ starts (replica_of s)))
     refl
 
 -- nor with house refusals besides that do not hold
-pub replica_past : (s : List ℕ) (us : List (Bool × ℕ)) → IsStored s → first_that us ≡ none → first_that (lent_house s ++ us) ≡ none
+pub replica_past : (s : List ℕ) (us : List (Bool × ℕ)) → IsStored s → first_that us ≡ None → first_that (lent_house s ++ us) ≡ None
 replica_past s us is e = first_past (lent_house s) us (replica_passes s is) ∙ e
 
 -- a buffer of zeros is a fresh replica, without a call

@@ -1,17 +1,13 @@
 -- The calls that take a line in and put lines out. Assumes nothing.
 use mathlib.Core.Path.{◌≡◌, refl, sym, ap, ◌∙◌}
-use mathlib.Core.Bool.{Bool}
+use Rattle.rules.specs.declared.Outcome.{Outcome}
+use Rattle.std.specs.Prelude.{Result, Ok, Err}
 use mathlib.Core.List.{List, []}
-use mathlib.Core.Option.{Option, none, some}
-use Prim.Native.Nat.{ℕ, zero, suc}
-use native.Mathlib.Omega.{arith}
+use Rattle.std.specs.Prelude.{Option, None, Some}
+use Prim.Native.Nat.{ℕ}
 use lib.ListN.{length}
-use Rattle.rules.specs.declared.Answered.{Answered}
-use Rattle.rules.specs.declared.Answered.TheVariants as answered
 use Rattle.rules.specs.declared.Refusal.{Refusal}
 use Rattle.rules.specs.declared.Refusal.TheVariants.{BadMember}
-use Rattle.rules.specs.declared.Written.{Written}
-use Rattle.rules.specs.declared.Written.TheVariants as written
 use Rattle.rules.specs.Answer.{refused, written_number, answered_number}
 use Rattle.rules.specs.Choice.{maybe, first_that}
 use Rattle.rules.specs.Replica.{Id, Replica, tree_of}
@@ -23,32 +19,31 @@ use Rattle.store.specs.Storage.{stored, replica_of, IsStored}
 use Rattle.takes.specs.Took.{Took}
 use Rattle.reads.proofs.AnswerLaws.{first_some}
 use Rattle.puts.proofs.SizeLaws.{lines_most}
-use Rattle.refile.specs.Boundary.{result_number, first_house, Calls, House, Lent, lent_house, TakesCall, take_in_call, put_out_call, put_out_size_call}
-use Rattle.refile.proofs.CallLaws.{none_first, no_house, first_both, stops, lent_stands, keeps, accepts, keeps_one, lent_refuses, lent_does}
+use Rattle.refile.specs.declared.number.HouseRefusal.{HouseRefusal}
+use Rattle.refile.specs.House.{house_number, House}
+use Rattle.rules.proofs.MapLaws.{none≢some}
+use Rattle.refile.specs.Boundary.{result_number, Calls, Lent, lent_house, TakesCall, take_in_call, put_out_call, put_out_size_call}
+use Rattle.refile.proofs.CallLaws.{none_first, house_first, no_house, first_both, stops, lent_stands, unfit_keeps, accepts, keeps_one, lent_refuses, lent_does}
 use Rattle.refile.proofs.FairLaws.{Fair, FairCall, lent_numbers, rules_fair, accepted_fair, write_as}
 use Rattle.refile.proofs.ReadCallLaws.{Reads}
 
 -- ---- taking in
 
-not_both : (ts : List (Bool × ℕ)) (n : ℕ) → first_that ts ≡ first_house n → (n ≡ 0 → ⊥) → first_that ts ≡ none → ⊥
-not_both ts zero e ne z = ne refl
-not_both ts (suc n) e ne z = let q : ◌≡◌ {A = Option ℕ} (some (suc n)) none = sym e ∙ z in absurd (let y : ◌≡◌ {A = ℕ} 0 1 = cc in omega arith)
-
-module _ (s line : List ℕ) {n r : ℕ} (h : House (lent_house s) n) where
-  pub take_refuses : (n ≡ 0 → ⊥) → r ≡ result_number (refused n) → TakesCall s line r s
+module _ (s line : List ℕ) {q : Result (Unit {0}) HouseRefusal} {r : ℕ} (h : House (lent_house s) q) where
+  pub take_refuses : {x : HouseRefusal} → q ≡ Err x → r ≡ result_number (refused (house_number x)) → TakesCall s line r s
   unfolding take_in_call
-  take_refuses ne e = record {
-    members = none;
-    holds = λ z. absurd (not_both (lent_house s) n h.first ne z);
-    keeps = keeps n ne e (lent_refuses s [] n h ne e);
+  take_refuses {x} e f = record {
+    members = None;
+    holds = λ z. absurd (none≢some (sym z ∙ house_first (lent_house s) h e));
+    keeps = unfit_keeps x f (lent_refuses s [] h e f);
   }
 
-  pub take_done : n ≡ 0 → {a : Written} {left : List ℕ} → Took s line a left → r ≡ result_number (written_number a) → TakesCall s line r left
+  pub take_done : q ≡ Ok tt → {a : Result Outcome Refusal} {left : List ℕ} → Took s line a left → r ≡ result_number (written_number a) → TakesCall s line r left
   unfolding take_in_call
   take_done z t e = record {
     members = t.members;
     holds = λ f. t.holds;
-    keeps = accepts (lent_does s [] (none_first _ n h z) no_house refl (e ∙ ap (λ (x : Written). result_number (written_number x)) t.answer) t.left) t.is;
+    keeps = accepts (lent_does s [] (none_first _ h z) no_house refl (e ∙ ap (λ (x : Result Outcome Refusal). result_number (written_number x)) t.answer) t.left) t.is;
   }
 
 -- a house refusal is the same whatever the line holds, and past them the line holds one thing
@@ -57,10 +52,10 @@ unfolding take_in_call
 take_one {s} {line} {x} {y} {a} {b} p q = go (first_that (lent_house s)) refl
   where
     go : (f : Option ℕ) → first_that (lent_house s) ≡ f → (x ≡ y) × (a ≡ b)
-    go none e =
+    go None e =
         let m = holds_one line p.members q.members (p.holds e) (q.holds e) in
         keeps_one (rw m at p.keeps) q.keeps
-    go (some n) e =
+    go (Some n) e =
         let u = stops (take_in_call s p.members) n (first_some (lent_house s) [] n e) in
         let v = stops (take_in_call s q.members) n (first_some (lent_house s) [] n e) in (
           p.keeps.calls.answers ∙ (ap (λ o. result_number o.0) (u ∙ sym v) ∙ sym q.keeps.calls.answers),
@@ -70,15 +65,15 @@ take_one {s} {line} {x} {y} {a} {b} p q = go (first_that (lent_house s)) refl
 module _ (s : List ℕ) (ms : Option Members) where
   take_as : IsStored s → Fair s (written_number (take_in (replica_of s) ms).0, stored (take_in (replica_of s) ms).1)
   unfolding take_in
-  take_as is = go (first_that (line_refusals ms (maybe none read_line ms))) (maybe none read_line ms)
+  take_as is = go (first_that (line_refusals ms (maybe None read_line ms))) (maybe None read_line ms)
     where
-      left : Option Line → Option Refusal → Written × Replica
-      left l x = settle written.Refused (replica_of s) (maybe (written.Refused BadMember, replica_of s) (λ w. write (replica_of s) (as_write w)) l) x
+      left : Option Line → Option Refusal → Result Outcome Refusal × Replica
+      left l x = settle Err (replica_of s) (maybe (Err BadMember, replica_of s) (λ w. write (replica_of s) (as_write w)) l) x
 
       go : (x : Option Refusal) (l : Option Line) → Fair s (written_number (left l x).0, stored (left l x).1)
-      go (some x) l = rules_fair s _ x (sym is.same)
-      go none none = rules_fair s _ BadMember (sym is.same)
-      go none (some l) = write_as s (as_write l) is
+      go (Some x) l = rules_fair s _ x (sym is.same)
+      go None None = rules_fair s _ BadMember (sym is.same)
+      go None (Some l) = write_as s (as_write l) is
 
   pub take_fair : Lent s → FairCall (take_in_call s ms)
   unfolding take_in_call
@@ -90,19 +85,19 @@ pub put_out_reads : (s out : List ℕ) (i : Id) → Reads s out (put_out (replic
 unfolding put_out_call
 put_out_reads s out i = record { is = refl }
 
-module _ (s : List ℕ) (i : Id) {n r : ℕ} (h : House (lent_house s) n) where
-  pub size_refuses : (n ≡ 0 → ⊥) → r ≡ result_number (refused n) → Calls (put_out_size_call s i) r tt
+module _ (s : List ℕ) (i : Id) {q : Result (Unit {0}) HouseRefusal} {r : ℕ} (h : House (lent_house s) q) where
+  pub size_refuses : {x : HouseRefusal} → q ≡ Err x → r ≡ result_number (refused (house_number x)) → Calls (put_out_size_call s i) r tt
   unfolding put_out_size_call
-  size_refuses ne e = lent_refuses s [] n h ne e
+  size_refuses e f = lent_refuses s [] h e f
 
-  pub size_answers : n ≡ 0 → {a : Answered} → a ≡ put_out_size (replica_of s) i → r ≡ result_number (answered_number a) → Calls (put_out_size_call s i) r tt
+  pub size_answers : q ≡ Ok tt → {a : Result ℕ Refusal} → a ≡ put_out_size (replica_of s) i → r ≡ result_number (answered_number a) → Calls (put_out_size_call s i) r tt
   unfolding put_out_size_call
-  size_answers z d e = lent_does s [] (none_first _ n h z) no_house refl (e ∙ ap (λ (x : Answered). result_number (answered_number x)) d) refl
+  size_answers z d e = lent_does s [] (none_first _ h z) no_house refl (e ∙ ap (λ (x : Result ℕ Refusal). result_number (answered_number x)) d) refl
 
 pub size_fair : (s : List ℕ) (i : Id) → Lent s → FairCall (put_out_size_call s i)
 unfolding put_out_size_call put_out_size
 size_fair s i l = record { house = lent_numbers s [] tt; does = λ e. go (lent_stands s (first_both (lent_house s) [] e).0 l) (first_that (put_refusals (replica_of s) i)) }
   where
-    go : IsStored s → (x : Option Refusal) → Fair {L = Unit {0}} tt (answered_number (maybe (answered.Count (length (lines_text i (tree_of (replica_of s) i)))) answered.Refused x), tt)
-    go is none = accepted_fair tt tt _ (lines_most (replica_of s) is.replica i)
-    go is (some x) = rules_fair tt tt x refl
+    go : IsStored s → (x : Option Refusal) → Fair {L = Unit {0}} tt (answered_number (maybe (Ok (length (lines_text i (tree_of (replica_of s) i)))) Err x), tt)
+    go is None = accepted_fair tt tt _ (lines_most (replica_of s) is.replica i)
+    go is (Some x) = rules_fair tt tt x refl

@@ -1,5 +1,6 @@
 -- The number of an outcome. Assumes nothing.
 use mathlib.Core.Path.{◌≡◌, refl, sym, ap, ◌∙◌}
+use Rattle.std.specs.Prelude.{Result, Err}
 use mathlib.Core.Bool.{false, ◌||◌}
 use Prim.Native.Nat.{ℕ, zero, suc, ◌+◌, ◌*◌, ◌≤◌, ◌<◌}
 use native.Mathlib.Omega.{arith}
@@ -7,8 +8,6 @@ use borrow.Author.Tests.{ltb-false}
 use lib.Dec.{ltb}
 use Rattle.rules.specs.declared.Fault.{Fault}
 use Rattle.rules.specs.declared.Fault.TheVariants.{TooShort, BadEdition, BadHead, BadContents, BadSequence, BadRow, BadParent}
-use Rattle.rules.specs.declared.Loaded.{Loaded}
-use Rattle.rules.specs.declared.Loaded.TheVariants as loaded
 use Rattle.rules.specs.declared.Refusal.{Refusal}
 use Rattle.rules.specs.declared.Refusal.TheVariants.{BadId, BadPath, LowNumber, OtherParent, OtherContent, DocumentsFull, RevisionsFull, SequenceSpent}
 use Rattle.rules.specs.declared.Refusal.TheVariants.{NotAParent, AlreadyKnown, LastNumber, NoDocument, NoRevision, ShortBuffer, BadAsked}
@@ -16,7 +15,7 @@ use Rattle.rules.specs.declared.Refusal.TheVariants.{NotJson, BadMember, OtherRe
 use Rattle.rules.specs.Answer.{Numbered, refused, loaded_number}
 use Rattle.rules.specs.Refusal.{refusal_number, fault_number}
 use Rattle.rules.proofs.ChoiceLaws.{neither}
-use Rattle.refile.specs.Boundary.{refused_from, result_number, RefusalOf, SmallPlace}
+use Rattle.refile.specs.Boundary.{refused_from, result_number, SmallPlace}
 
 -- ---- no refusal has the number 0, nor one above the house's
 
@@ -54,10 +53,6 @@ pub fault_small : (f : Fault) → Small (fault_number f)
 fault_small f =
     small_if (fault_number f) (elim f as (λ (k : Fault). (ltb (fault_number k) 1 || ltb 106 (fault_number k)) ≡ false) [ TooShort ↦ refl | BadEdition ↦ refl | BadHead ↦ refl | BadContents ↦ refl | BadSequence ↦ refl | BadRow ↦ refl | BadParent ↦ refl ])
 
--- the number of a refusal that is known
-pub numbered : {r x : Refusal} → r ≡ x → 1 ≤ refusal_number x → refusal_number x ≤ 43 → RefusalOf r (refusal_number x)
-numbered e h k = record { is = sym (ap (λ (y : Refusal). refusal_number y) e); least = h; most = k }
-
 none_at_zero : (n : ℕ) → Small n → n ≡ 0 → ⊥
 none_at_zero n h e = omega arith
 
@@ -81,10 +76,10 @@ pub refused_case : {A : Type 0} (number : A → Numbered) (a b : A) (n : Refusal
     → k ≡ refusal_number n → r ≡ result_number (refused k) → r ≡ result_number (number a)
 refused_case number a b n k r e f p q = q ∙ (ap (λ (m : ℕ). result_number (refused m)) p ∙ (ap (λ (m : Numbered). result_number m) (sym f) ∙ ap (λ x. result_number (number x)) (sym e)))
 
-pub place_small : (a : Loaded) (f : Fault) (p : ℕ) → a ≡ loaded.Refused f p → SmallPlace a → p < 4294967296
+pub place_small : (a : Result (Unit {0}) (Fault × ℕ)) (f : Fault) (p : ℕ) → a ≡ Err (f, p) → SmallPlace a → p < 4294967296
 place_small a f p e h = rw e at h
 
-pub loaded_case : (a : Loaded) (f : Fault) (k p r : ℕ) → a ≡ loaded.Refused f p → k ≡ fault_number f → 20 ≤ k → r ≡ result_number (refused k) → r + p ≡ result_number (loaded_number a)
+pub loaded_case : (a : Result (Unit {0}) (Fault × ℕ)) (f : Fault) (k p r : ℕ) → a ≡ Err (f, p) → k ≡ fault_number f → 20 ≤ k → r ≡ result_number (refused k) → r + p ≡ result_number (loaded_number a)
 loaded_case a f k p r e g h q =
     let m : r ≡ refused_from + k * 4294967296 = q ∙ sym (result_refused k (omega arith)) in
     let s : r + p ≡ refused_from + k * 4294967296 + p = omega arith in

@@ -1,21 +1,18 @@
 -- What a read across the C boundary answers and leaves. Assumes nothing.
 use mathlib.Core.Path.{◌≡◌, refl, sym, ap, ◌∙◌}
+use Rattle.std.specs.Prelude.{Result, Ok, Err}
 use mathlib.Core.Bool.{Bool, true, false}
 use mathlib.Core.List.{List, [], ◌∷◌}
-use mathlib.Core.Option.{Option, none, some}
+use Rattle.std.specs.Prelude.{Option, None, Some}
 use Prim.Native.Nat.{ℕ, ◌≤◌, ◌<◌}
 use native.Mathlib.Omega.{arith}
 use borrow.Author.Tests.{eq-eqb, ne_eqb}
 use lib.Dec.{ltb}
+use mir.Val.{bool_byte}
 use lib.ListN.{length}
 use lib.Seq.{take_all}
-use Rattle.rules.specs.declared.Answered.{Answered}
 use Rattle.rules.specs.declared.Change.{Change}
-use Rattle.rules.specs.declared.Changes.{Changes}
-use Rattle.rules.specs.declared.Changes.TheVariants as changed
 use Rattle.rules.specs.declared.Held.{Held}
-use Rattle.rules.specs.declared.Next.{Next}
-use Rattle.rules.specs.declared.Next.TheVariants.{Nobody, At}
 use Rattle.rules.specs.declared.Refusal.{Refusal}
 use Rattle.rules.specs.declared.Refusal.TheVariants.{ShortBuffer}
 use Rattle.rules.specs.declared.Seq.{Seq}
@@ -34,18 +31,20 @@ use Rattle.store.specs.Documents.{documents_of}
 use Rattle.store.specs.Storage.{replica_of}
 use Rattle.reads.specs.Next.{IsNext}
 use Rattle.reads.proofs.AnswerLaws.{first_past}
-use Rattle.refile.specs.Boundary.{result_number, CCall, outcome, Calls, House, read_call, lent_house, save_call, winner_call, leaves_call, missing_call}
+use Rattle.refile.specs.declared.number.HouseRefusal.{HouseRefusal}
+use Rattle.refile.specs.House.{house_number, House}
+use Rattle.refile.specs.Boundary.{result_number, CCall, outcome, Calls, read_call, lent_house, save_call, winner_call, leaves_call, missing_call}
 use Rattle.refile.specs.Boundary.{bad_hash, short_answer, numbers, flag_number, change_bytes, changes_as, held_bytes, path_call, changes_call, counts_call, report_call}
-use Rattle.refile.proofs.CallLaws.{none_first, no_house, passes, made, does, lent_refuses, more_refuses, lent_does}
+use Rattle.refile.proofs.CallLaws.{none_first, no_house, passes, made, refuses, does, lent_refuses, lent_does}
 use Rattle.refile.proofs.AnswerLaws.{short_answer_lem, room_answer}
 
 -- past the house refusals a read answers and leaves what it reads
-pub reads_on : (s : List ℕ) (us : List (Bool × ℕ)) {out : List ℕ} (o : Answered × List ℕ) {a : Answered} {left : List ℕ} {r : ℕ}
-    → first_that (lent_house s) ≡ none → first_that us ≡ none → Does o a left → r ≡ result_number (answered_number a) → Calls (read_call s us out o) r left
-reads_on s us o p q d e = lent_does s us p q refl (e ∙ ap (λ (x : Answered). result_number (answered_number x)) d.answers) d.left
+pub reads_on : (s : List ℕ) (us : List (Bool × ℕ)) {out : List ℕ} (o : Result ℕ Refusal × List ℕ) {a : Result ℕ Refusal} {left : List ℕ} {r : ℕ}
+    → first_that (lent_house s) ≡ None → first_that us ≡ None → Does o a left → r ≡ result_number (answered_number a) → Calls (read_call s us out o) r left
+reads_on s us o p q d e = lent_does s us p q refl (e ∙ ap (λ (x : Result ℕ Refusal). result_number (answered_number x)) d.answers) d.left
 
 -- a call that reads what o says, with no house refusal but those of a lent replica
-pub record Reads (s out : List ℕ) (o : Answered × List ℕ) (call : CCall (List ℕ)) : Type 0 where
+pub record Reads (s out : List ℕ) (o : Result ℕ Refusal × List ℕ) (call : CCall (List ℕ)) : Type 0 where
   pub is : call ≡ read_call s [] out o
 
 module _ (s out : List ℕ) where
@@ -65,21 +64,21 @@ module _ (s out : List ℕ) where
   unfolding save_call
   save_reads = record { is = refl }
 
-module _ {s out : List ℕ} {o : Answered × List ℕ} {call : CCall (List ℕ)} (k : Reads s out o call) {n r : ℕ} (h : House (lent_house s) n) where
-  pub read_refuses : (n ≡ 0 → ⊥) → r ≡ result_number (refused n) → Calls call r out
-  read_refuses ne e = rw k.is (lent_refuses s [] n h ne e)
+module _ {s out : List ℕ} {o : Result ℕ Refusal × List ℕ} {call : CCall (List ℕ)} (k : Reads s out o call) {q : Result (Unit {0}) HouseRefusal} {r : ℕ} (h : House (lent_house s) q) where
+  pub read_refuses : {x : HouseRefusal} → q ≡ Err x → r ≡ result_number (refused (house_number x)) → Calls call r out
+  read_refuses e f = rw k.is (lent_refuses s [] h e f)
 
-  pub read_answers : n ≡ 0 → {a : Answered} {left : List ℕ} → Does o a left → r ≡ result_number (answered_number a) → Calls call r left
-  read_answers z d e = rw k.is (reads_on s [] o (none_first (lent_house s) n h z) no_house d e)
+  pub read_answers : q ≡ Ok tt → {a : Result ℕ Refusal} {left : List ℕ} → Does o a left → r ≡ result_number (answered_number a) → Calls call r left
+  read_answers z d e = rw k.is (reads_on s [] o (none_first (lent_house s) h z) no_house d e)
 
 -- ---- path: 104 after 100 and 106
 
-module _ (s : List ℕ) (i : Id) (number : ℕ) (hash out : List ℕ) (fine : first_that (lent_house s) ≡ none) where
+module _ (s : List ℕ) (i : Id) (number : ℕ) (hash out : List ℕ) (fine : first_that (lent_house s) ≡ None) where
   pub path_bad_hash : (r : ℕ) → (length hash ≡ hash_size → ⊥) → r ≡ result_number (refused 104) → Calls (path_call s i number hash out) r out
   unfolding path_call bad_hash first_that
-  path_bad_hash r ne e = more_refuses s _ fine 104 (record { first = rw (ne_eqb (length hash) hash_size ne); most = omega arith }) (λ z. omega arith) e
+  path_bad_hash r ne e = refuses 104 (first_past (lent_house s) _ fine ∙ rw (ne_eqb (length hash) hash_size ne)) e refl
 
-  pub path_answers : (h : List ℕ) (a : Answered) (left : List ℕ) (r : ℕ) → length hash ≡ hash_size → IsHash hash 0 h
+  pub path_answers : (h : List ℕ) (a : Result ℕ Refusal) (left : List ℕ) (r : ℕ) → length hash ≡ hash_size → IsHash hash 0 h
       → Does (read_path (replica_of s) i (revision number h) out) a left → r ≡ result_number (answered_number a) → Calls (path_call s i number hash out) r left
   unfolding path_call bad_hash part first_that
   path_answers h a left r e k d q =
@@ -88,7 +87,7 @@ module _ (s : List ℕ) (i : Id) (number : ℕ) (hash out : List ℕ) (fine : fi
 
 -- ---- counts
 
-module _ (s answer : List ℕ) (fine : first_that (lent_house s) ≡ none) where
+module _ (s answer : List ℕ) (fine : first_that (lent_house s) ≡ None) where
   pub counts_short : (r : ℕ) → length answer < 8 → r ≡ result_number (refused 14) → Calls (counts_call s answer) r answer
   unfolding counts_call held_bytes short_answer
   counts_short r h q = lent_does s _ fine no_house (short_answer_lem _ _ _ answer h) q refl
@@ -99,6 +98,10 @@ module _ (s answer : List ℕ) (fine : first_that (lent_house s) ≡ none) where
 
 -- ---- changes
 
+pub byte_flag : (b : Bool) → bool_byte b ≡ flag_number b
+byte_flag false = refl
+byte_flag true = refl
+
 pub change_put : (c : Change) (gone : ℕ) (before after : List ℕ) → gone ≡ flag_number c.deleted
     → after ≡ front (numbers (c.id_len ∷ c.seq.0 ∷ c.leaves ∷ gone ∷ [])) before → after ≡ front (change_bytes c) before
 unfolding change_bytes
@@ -108,48 +111,48 @@ pair : {A : Type 0} {o : A × List ℕ} {a : A} {left : List ℕ} → Does o a l
 pair d = let e = d.answers in let f = d.left in sym (λ i. (e i, f i))
 
 -- what is read of the first document after, or of none
-abbrev read_of : List ℕ → Option (Id × Document) → Changes × List ℕ
+abbrev read_of : List ℕ → Option (Id × Document) → Result (Option Change) Refusal × List ℕ
 read_of out f =
-    maybe (changed.NoMore, out)
-    (λ d. lend changed.Refused out (changed.Next (change_of d)) d.0 (first_that (short_buffer d.0 out ∷ [])))
+    maybe (Ok None, out)
+    (λ d. lend Err out (Ok (Some (change_of d))) d.0 (first_that (short_buffer d.0 out ∷ [])))
     f
 
 -- the answer without a buffer for it
-module _ (s : List ℕ) (after : Seq) (n : Next) (is : IsNext after 0 (documents_of s) n) where
-  pub short_none : n ≡ Nobody → 0 ≡ result_number (maybe (accepted 0) (λ d. short_answer) (first_of (documents_after after (documents_of s))))
+module _ (s : List ℕ) (after : Seq) (n : Option (ℕ × Seq)) (is : IsNext after 0 (documents_of s) n) where
+  pub short_none : n ≡ None → 0 ≡ result_number (maybe (accepted 0) (λ d. short_answer) (first_of (documents_after after (documents_of s))))
   short_none e =
-      let z : IsNext after 0 (documents_of s) Nobody = rw e at is in
+      let z : IsNext after 0 (documents_of s) None = rw e at is in
       rw z refl
 
-  pub short_next : (d : ℕ) (q : Seq) (r : ℕ) → n ≡ At d q → r ≡ result_number (refused 14)
+  pub short_next : (d : ℕ) (q : Seq) (r : ℕ) → n ≡ Some (d, q) → r ≡ result_number (refused 14)
       → r ≡ result_number (maybe (accepted 0) (λ x. short_answer) (first_of (documents_after after (documents_of s))))
   unfolding short_answer
   short_next d q r e g =
-      let z : IsNext after 0 (documents_of s) (At d q) = rw e at is in
+      let z : IsNext after 0 (documents_of s) (Some (d, q)) = rw e at is in
       rw z.1 g
 
 -- nothing is written where nothing is answered
-untouched : (out : List ℕ) (f : Option (Id × Document)) (a : Changes) → a ≡ (read_of out f).0 → ((c : Change) → a ≡ changed.Next c → ⊥) → (read_of out f).1 ≡ out
+untouched : (out : List ℕ) (f : Option (Id × Document)) (a : Result (Option Change) Refusal) → a ≡ (read_of out f).0 → ((c : Change) → a ≡ Ok (Some c) → ⊥) → (read_of out f).1 ≡ out
 unfolding first_that short_buffer
-untouched out none a e ne = refl
-untouched out (some d) a e ne = go (ltb (length out) (length d.0)) e
+untouched out None a e ne = refl
+untouched out (Some d) a e ne = go (ltb (length out) (length d.0)) e
   where
-    go : (b : Bool) → a ≡ (lend changed.Refused out (changed.Next (change_of d)) d.0 (pick b (some ShortBuffer) none)).0
-        → (lend changed.Refused out (changed.Next (change_of d)) d.0 (pick b (some ShortBuffer) none)).1 ≡ out
+    go : (b : Bool) → a ≡ (lend Err out (Ok (Some (change_of d))) d.0 (pick b (Some ShortBuffer) None)).0
+        → (lend Err out (Ok (Some (change_of d))) d.0 (pick b (Some ShortBuffer) None)).1 ≡ out
     go true q = refl
     go false q = absurd (ne (change_of d) q)
 
-module _ (s : List ℕ) (after : ℕ) (out answer : List ℕ) (fine : first_that (lent_house s) ≡ none) where
+module _ (s : List ℕ) (after : ℕ) (out answer : List ℕ) (fine : first_that (lent_house s) ≡ None) where
   abbrev next : Option (Id × Document)
   next = first_of (documents_after (record { 0 = after }) (documents_of s))
 
   -- an answer buffer that is too short
   short_of : length answer < 16 → (f : Option (Id × Document)) → changes_as out answer (read_of out f) ≡ (maybe (accepted 0) (λ d. short_answer) f, (out, answer))
   unfolding first_that short_buffer short_answer change_bytes
-  short_of h none = refl
-  short_of h (some d) = go (ltb (length out) (length d.0))
+  short_of h None = refl
+  short_of h (Some d) = go (ltb (length out) (length d.0))
     where
-      go : (b : Bool) → changes_as out answer (lend changed.Refused out (changed.Next (change_of d)) d.0 (pick b (some ShortBuffer) none)) ≡ (short_answer, (out, answer))
+      go : (b : Bool) → changes_as out answer (lend Err out (Ok (Some (change_of d))) d.0 (pick b (Some ShortBuffer) None)) ≡ (short_answer, (out, answer))
       go true = refl
       go false = short_answer_lem _ _ _ answer h
 
@@ -158,39 +161,39 @@ module _ (s : List ℕ) (after : ℕ) (out answer : List ℕ) (fine : first_that
   changes_short r h e = lent_does s _ fine no_house (short_of h next) e refl
 
   -- what was read, with its answer
-  answers_as : (a : Changes) (left : List ℕ) → Does (read_changes (replica_of s) (record { 0 = after }) out) a left
+  answers_as : (a : Result (Option Change) Refusal) (left : List ℕ) → Does (read_changes (replica_of s) (record { 0 = after }) out) a left
       → outcome (changes_call s after out answer) ≡ changes_as out answer (a, left)
   unfolding changes_call
   answers_as a left d = passes _ (first_past (lent_house s) [] fine ∙ no_house) ∙ rw (pair d) refl
 
-  pub changes_next : (a : Changes) (c : Change) (left after-answer : List ℕ) → 16 ≤ length answer → a ≡ changed.Next c
+  pub changes_next : (a : Result (Option Change) Refusal) (c : Change) (left after-answer : List ℕ) → 16 ≤ length answer → a ≡ Ok (Some c)
       → Does (read_changes (replica_of s) (record { 0 = after }) out) a left → after-answer ≡ front (change_bytes c) answer
       → Calls (changes_call s after out answer) 1 (left, after-answer)
   unfolding change_bytes
   changes_next a c left after-answer h e d w =
-      let z = answers_as (changed.Next c) left (rw e at d) in
+      let z = answers_as (Ok (Some c)) left (rw e at d) in
       made (z ∙ room_answer _ _ _ answer h) refl (ap (λ (l : List ℕ). (left, l)) w)
 
-  left_alone : (a : Changes) (left : List ℕ) → Does (read_changes (replica_of s) (record { 0 = after }) out) a left → ((c : Change) → a ≡ changed.Next c → ⊥) → left ≡ out
+  left_alone : (a : Result (Option Change) Refusal) (left : List ℕ) → Does (read_changes (replica_of s) (record { 0 = after }) out) a left → ((c : Change) → a ≡ Ok (Some c) → ⊥) → left ≡ out
   unfolding read_changes
   left_alone a left d ne = d.left ∙ untouched out next a d.answers ne
 
-  pub changes_none : (a : Changes) (left : List ℕ) → a ≡ changed.NoMore → Does (read_changes (replica_of s) (record { 0 = after }) out) a left
+  pub changes_none : (a : Result (Option Change) Refusal) (left : List ℕ) → a ≡ Ok None → Does (read_changes (replica_of s) (record { 0 = after }) out) a left
       → Calls (changes_call s after out answer) 0 (left, answer)
   changes_none a left e d =
-      made (answers_as a left d ∙ ap (λ (x : Changes). changes_as out answer (x, left)) e) refl
+      made (answers_as a left d ∙ ap (λ (x : Result (Option Change) Refusal). changes_as out answer (x, left)) e) refl
       (ap (λ (l : List ℕ). (l, answer)) (left_alone a left d (λ c f. let z : ◌≡◌ {A = ℕ} 0 1 = cc in omega arith)))
 
-  pub changes_refused : (a : Changes) (n : Refusal) (left : List ℕ) (k r : ℕ) → a ≡ changed.Refused n
+  pub changes_refused : (a : Result (Option Change) Refusal) (n : Refusal) (left : List ℕ) (k r : ℕ) → a ≡ Err n
       → Does (read_changes (replica_of s) (record { 0 = after }) out) a left → k ≡ refusal_number n → r ≡ result_number (refused k)
       → Calls (changes_call s after out answer) r (left, answer)
   changes_refused a n left k r e d f q =
-      made (answers_as a left d ∙ ap (λ (x : Changes). changes_as out answer (x, left)) e) (q ∙ ap (λ (m : ℕ). result_number (refused m)) f)
+      made (answers_as a left d ∙ ap (λ (x : Result (Option Change) Refusal). changes_as out answer (x, left)) e) (q ∙ ap (λ (m : ℕ). result_number (refused m)) f)
       (ap (λ (l : List ℕ). (l, answer)) (left_alone a left d (λ c g. let z : ◌≡◌ {A = ℕ} 0 1 = cc in omega arith)))
 
 -- ---- report
 
-pub report_answers : (image out : List ℕ) (a : Answered) (left : List ℕ) (r : ℕ) → Does (read_report image out) a left → r ≡ result_number (answered_number a)
+pub report_answers : (image out : List ℕ) (a : Result ℕ Refusal) (left : List ℕ) (r : ℕ) → Does (read_report image out) a left → r ≡ result_number (answered_number a)
     → Calls (report_call image out) r left
 unfolding report_call
-report_answers image out a left r d q = does no_house refl (q ∙ ap (λ (x : Answered). result_number (answered_number x)) d.answers) d.left
+report_answers image out a left r d q = does no_house refl (q ∙ ap (λ (x : Result ℕ Refusal). result_number (answered_number x)) d.answers) d.left

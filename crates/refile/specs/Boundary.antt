@@ -1,17 +1,14 @@
 -- The C interface: one convention for every call, the house refusals, and what each call answers and
 -- leaves in the buffers lent to it.
 use Rattle.std.specs.Prelude.{◌≡◌, Bool, true, false, not, ◌&&◌, ◌||◌, List, [], ◌∷◌, ◌++◌, ℕ, zero, suc, ◌+◌, ◌*◌, ◌<◌, ◌≤◌, eqb, ltb, length}
-use Rattle.std.proofs.Math.Option.{Option, none, some}
-use Rattle.rules.specs.declared.Answered.{Answered}
+use Rattle.rules.specs.declared.Fault.{Fault}
+use Rattle.std.specs.Prelude.{Result, Ok, Err}
+use Rattle.std.specs.Prelude.{Option, None, Some}
 use Rattle.rules.specs.declared.Change.{Change}
-use Rattle.rules.specs.declared.Changes.{Changes}
-use Rattle.rules.specs.declared.Changes.TheVariants as changes
 use Rattle.rules.specs.declared.Content.{Content}
 use Rattle.rules.specs.declared.Content.TheVariants.{Live, Deleted}
 use Rattle.rules.specs.declared.Counts.{Counts}
 use Rattle.rules.specs.declared.Held.{Held}
-use Rattle.rules.specs.declared.Loaded.{Loaded}
-use Rattle.rules.specs.declared.Loaded.TheVariants as loaded
 use Rattle.rules.specs.declared.Revision.{Revision}
 use Rattle.rules.specs.Answer.{Numbered, accepted, refused, written_number, edited_number, answered_number, changes_number, loaded_number}
 use Rattle.rules.specs.Bytes.{be}
@@ -55,9 +52,9 @@ pub record RefusalOf (r : Refusal) (n : ℕ) : Type 0 where
   pub most : n ≤ 43
 
 -- a place that the lower half holds
-abbrev pub SmallPlace : Loaded → Type 0
-SmallPlace loaded.Accepted = Unit {0}
-SmallPlace (loaded.Refused f place) = place < 4294967296
+abbrev pub SmallPlace : Result (Unit {0}) (Fault × ℕ) → Type 0
+SmallPlace (Ok u) = Unit {0}
+SmallPlace (Err (f, place)) = place < 4294967296
 
 -- ---- the house refusals: what the boundary can get and the rules have no number for
 
@@ -116,15 +113,6 @@ pub record Keeps {L : Type 0} (c : CCall L) (r : ℕ) (buffer : L) (replica : Li
   pub calls : Calls c r buffer
   pub stands : r < refused_from → IsStored replica
 
--- the number of the first house refusal, 0 if there is none
-abbrev pub first_house : ℕ → Option ℕ
-first_house zero = none
-first_house (suc n) = some (suc n)
-
-pub record House (house : List (Bool × ℕ)) (n : ℕ) : Type 0 where
-  pub first : first_that house ≡ first_house n
-  pub most : n ≤ 106
-
 -- what a call requires of a replica's buffer: if it has the size of one and begins as one, it is one
 abbrev pub Lent : List ℕ → Type 0
 Lent s = length s ≡ store_size → (head_of s).edition ≡ 0 → IsStored s
@@ -147,7 +135,7 @@ abbrev pub lent_call : {L : Type 0} → List ℕ → List (Bool × ℕ) → L �
 lent_call s house lent does = record { house = lent_house s ++ house; lent = lent; does = does }
 
 -- one that reads it, with a buffer for what is read
-abbrev pub read_call : List ℕ → List (Bool × ℕ) → List ℕ → Answered × List ℕ → CCall (List ℕ)
+abbrev pub read_call : List ℕ → List (Bool × ℕ) → List ℕ → Result ℕ Refusal × List ℕ → CCall (List ℕ)
 read_call s house out o = lent_call s house out (answered_number o.0, o.1)
 
 -- ---- the calls
@@ -180,7 +168,7 @@ take_in_call s ms =
 -- a call that takes the text of a line in: past the house refusals the members are those that the text holds
 pub record TakesCall (s line : List ℕ) (r : ℕ) (left : List ℕ) : Type 0 where
   pub members : Option Members
-  pub holds : first_that (lent_house s) ≡ none → Holds line members
+  pub holds : first_that (lent_house s) ≡ None → Holds line members
   pub keeps : Keeps (take_in_call s members) r left left
 
 -- 104 of a parent that is named, else 105
@@ -199,7 +187,7 @@ edit_house hash kind label named number parent =
 
 -- the parent, if one is named
 abbrev pub parent_from : ℕ → Revision → Option Revision
-parent_from named parent = pick (eqb named 1) (some parent) none
+parent_from named parent = pick (eqb named 1) (Some parent) None
 
 unfoldable pub edit_call : List ℕ → Id → List ℕ → ℕ → ℕ → ℕ → ℕ → List ℕ → CCall (List ℕ)
 edit_call s i hash kind label named number parent =
@@ -240,11 +228,11 @@ unfoldable pub change_bytes : Change → List ℕ
 change_bytes c = numbers (c.id_len ∷ c.seq.0 ∷ c.leaves ∷ flag_number c.deleted ∷ [])
 
 -- both buffers as they are left: the one of the id and the one of the answer
-abbrev pub changes_as : List ℕ → List ℕ → Changes × List ℕ → Numbered × (List ℕ × List ℕ)
-changes_as out answer (changes.Next c, left) =
-    answering (change_bytes c) answer (out, answer) (changes_number (changes.Next c), (left, front (change_bytes c) answer))
-changes_as out answer (changes.NoMore, left) = (changes_number changes.NoMore, (out, answer))
-changes_as out answer (changes.Refused n, left) = (changes_number (changes.Refused n), (out, answer))
+abbrev pub changes_as : List ℕ → List ℕ → Result (Option Change) Refusal × List ℕ → Numbered × (List ℕ × List ℕ)
+changes_as out answer (Ok (Some c), left) =
+    answering (change_bytes c) answer (out, answer) (changes_number (Ok (Some c)), (left, front (change_bytes c) answer))
+changes_as out answer (Ok None, left) = (changes_number (Ok None), (out, answer))
+changes_as out answer (Err n, left) = (changes_number (Err n), (out, answer))
 
 unfoldable pub changes_call : List ℕ → ℕ → List ℕ → List ℕ → CCall (List ℕ × List ℕ)
 changes_call s after out answer =

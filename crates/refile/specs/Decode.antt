@@ -1,6 +1,6 @@
 -- A result taken apart again, and what it tells of its call.
 use Rattle.std.specs.Prelude.{◌≡◌, ℕ, zero, suc, ◌/◌, ◌%◌, ◌<◌, ◌≤◌, leb}
-use Rattle.std.proofs.Math.Option.{none}
+use Rattle.std.specs.Prelude.{None}
 use Rattle.rules.specs.Answer.{Numbered}
 use Rattle.rules.specs.Choice.{pick, first_that}
 use Rattle.refile.specs.Boundary.{refused_from, CCall, outcome, Calls}
@@ -30,4 +30,4 @@ pub record Told {L : Type 0} (c : CCall L) (r : ℕ) (buffer : L) : Type 0 where
   pub calls : Calls c r buffer
   pub decodes : decode r ≡ (outcome c).0
   pub refused : refused_from ≤ r → buffer ≡ c.lent
-  pub past : refusal_in r ≡ 0 → first_that c.house ≡ none
+  pub past : refusal_in r ≡ 0 → first_that c.house ≡ None

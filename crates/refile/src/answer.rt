@@ -10,9 +10,7 @@ pub(crate) fn put_numbers(out: &mut [u8], ns: &[usize])
     requires { 4 * length ns.now ≤ length out.old }
     ensures { out.new ≡ front (numbers ns.now) out.old }
 {
-    let mut i = 0;
-    while i < ns.len() {
-        put4(out, 4 * i, (ns[i] % 4294967296) as u32);
-        i += 1;
+    for (i, n) in ns.iter().enumerate() {
+        put4(out, 4 * i, (*n % 4294967296) as u32);
     }
 }

@@ -2,12 +2,13 @@
 ghost use Rattle.std.specs.Prelude.{◌≡◌, [], ◌∷◌, length};
 ghost use Rattle.rules.specs.Replica.{revision};
 ghost use Rattle.rules.specs.Room.{hash_size};
-ghost use Rattle.refile.specs.Boundary.{Calls, Keeps, House, Lent, bad_kind, bad_label, parent_house, edit_house, parent_from, fresh_call, load_call, save_call, write_call, TakesCall, edit_call, pull_call};
+ghost use Rattle.refile.specs.Boundary.{Calls, Keeps, Lent, bad_kind, bad_label, bad_hash, parent_house, edit_house, parent_from, fresh_call, load_call, save_call, write_call, TakesCall, edit_call, pull_call};
+ghost use Rattle.refile.specs.House.{House};
 
 use crate::answer::put_numbers;
 use crate::number::{
-    BAD_FLAG, BAD_HASH, BAD_KIND, BAD_LABEL, BAD_NO_PARENT, BAD_REPLICA, DELETED, LIVE,
-    SHORT_ANSWER, answered, bad_replica, content_from, edited, loaded, refused, written,
+    DELETED, HouseRefusal, LIVE, SHORT_ANSWER, answered, check_replica, content_from, edited,
+    loaded, refused, unfit, written,
 };
 use codec::{load, save};
 use edits::edit;
@@ -26,7 +27,7 @@ pub fn refile_fresh(replica: &mut [u8]) -> u64
     ensures { Keeps (fresh_call replica.old) result replica.new replica.new }
 {
     if replica.len() != SIZE {
-        return refused(BAD_REPLICA);
+        return unfit(HouseRefusal::BadReplica);
     }
     make_fresh(replica);
     0
@@ -36,7 +37,7 @@ pub fn refile_load(replica: &mut [u8], image: &[u8]) -> u64
     ensures { Keeps (load_call replica.old image.now) result replica.new replica.new }
 {
     if replica.len() != SIZE {
-        return refused(BAD_REPLICA);
+        return unfit(HouseRefusal::BadReplica);
     }
     loaded(load(replica, image))
 }
@@ -45,27 +46,26 @@ pub fn refile_save(replica: &[u8], out: &mut [u8]) -> u64
     requires { Lent replica.now }
     ensures { Calls (save_call replica.now out.old) result out.new }
 {
-    let lent = bad_replica(replica);
-    if lent != 0 {
-        return refused(lent);
+    if let Err(x) = check_replica(replica) {
+        return unfit(x);
     }
     answered(save(replica, out))
 }
 
-// The house refusal of a content, 0 if there is none.
-fn bad_content(kind: u32, label: u64) -> u64
+// The house refusals of a content.
+fn check_content(kind: u32, label: u64) -> Result<(), HouseRefusal>
     ensures { House (bad_kind kind ∷ bad_label kind label ∷ []) result }
 {
     if kind == LIVE {
-        return 0;
+        return Ok(());
     }
     if kind != DELETED {
-        return BAD_KIND;
+        return Err(HouseRefusal::BadKind);
     }
     if label != 0 {
-        return BAD_LABEL;
+        return Err(HouseRefusal::BadLabel);
     }
-    0
+    Ok(())
 }
 
 pub fn refile_write(
@@ -79,13 +79,11 @@ pub fn refile_write(
     requires { Lent replica.old }
     ensures { Keeps (write_call replica.old id.now number path.now kind label) result replica.new replica.new }
 {
-    let lent = bad_replica(replica);
-    if lent != 0 {
-        return refused(lent);
+    if let Err(x) = check_replica(replica) {
+        return unfit(x);
     }
-    let house = bad_content(kind, label);
-    if house != 0 {
-        return refused(house);
+    if let Err(x) = check_content(kind, label) {
+        return unfit(x);
     }
     let content = content_from(kind, label);
     written(write(replica, id, RevNumber(number), path, content))
@@ -95,63 +93,67 @@ pub fn refile_take_in(replica: &mut [u8], line: &[u8]) -> u64
     requires { Lent replica.old }
     ensures { TakesCall replica.old line.now result replica.new }
 {
-    let lent = bad_replica(replica);
-    if lent != 0 {
-        return refused(lent);
+    if let Err(x) = check_replica(replica) {
+        return unfit(x);
     }
     written(take_in(replica, line))
 }
 
-// The house refusal of a parent, 0 if there is none.
-fn bad_parent(named: u32, number: u32, hash: &[u8]) -> u64
+// A hash that is named has its size.
+fn check_hash(hash: &[u8]) -> Result<(), HouseRefusal>
+    ensures { House (bad_hash hash.now ∷ []) result }
+{
+    if hash.len() != HASH {
+        return Err(HouseRefusal::BadHash);
+    }
+    Ok(())
+}
+
+// The house refusals of a parent.
+fn check_parent(named: u32, number: u32, hash: &[u8]) -> Result<(), HouseRefusal>
     ensures { House (parent_house named number hash.now ∷ []) result }
 {
     if named == 1 {
-        if hash.len() != HASH {
-            return BAD_HASH;
-        }
-        return 0;
+        return check_hash(hash);
     }
-    if number != 0 {
-        return BAD_NO_PARENT;
+    if number != 0 || hash.len() != 0 {
+        return Err(HouseRefusal::BadNoParent);
     }
-    if hash.len() != 0 {
-        return BAD_NO_PARENT;
-    }
-    0
+    Ok(())
 }
 
-// The house refusal of an edit, 0 if there is none.
-fn bad_edit(hash: &[u8], kind: u32, label: u64, named: u32, number: u32, parent: &[u8]) -> u64
+// The house refusals of an edit.
+fn check_edit(
+    hash: &[u8],
+    kind: u32,
+    label: u64,
+    named: u32,
+    number: u32,
+    parent: &[u8],
+) -> Result<(), HouseRefusal>
     ensures { House (edit_house hash.now kind label named number parent.now) result }
 {
-    let house = bad_content(kind, label);
-    if house != 0 {
-        return house;
-    }
+    check_content(kind, label)?;
     if 1 < named {
-        return BAD_FLAG;
+        return Err(HouseRefusal::BadFlag);
     }
-    if hash.len() != HASH {
-        return BAD_HASH;
-    }
-    bad_parent(named, number, parent)
+    check_hash(hash)?;
+    check_parent(named, number, parent)
 }
 
-// The revision that is named; where none is, it says nothing.
-fn parent_from(named: u32, number: u32, hash: &[u8]) -> Revision
+// The revision that is named, if one is.
+fn parent_from(named: u32, number: u32, hash: &[u8]) -> Option<Revision>
     requires { named ≡ 1 → length hash.now ≡ hash_size }
-    ensures { parent_from named result ≡ parent_from named (revision number hash.now) }
+    ensures { result ≡ parent_from named (revision number hash.now) }
 {
-    let number = RevNumber(number);
-    if named == 1 {
-        let hash = get_hash(hash, 0);
-        return Revision { number, hash };
+    if named != 1 {
+        return None;
     }
-    Revision {
-        number,
-        hash: [0u8; HASH],
-    }
+    let hash = get_hash(hash, 0);
+    Some(Revision {
+        number: RevNumber(number),
+        hash,
+    })
 }
 
 pub fn refile_edit(
@@ -167,31 +169,27 @@ pub fn refile_edit(
     requires { Lent replica.old }
     ensures { Keeps (edit_call replica.old id.now hash.now kind label named number parent.now) result replica.new replica.new }
 {
-    let lent = bad_replica(replica);
-    if lent != 0 {
-        return refused(lent);
+    if let Err(x) = check_replica(replica) {
+        return unfit(x);
     }
-    let house = bad_edit(hash, kind, label, named, number, parent);
-    if house != 0 {
-        return refused(house);
+    if let Err(x) = check_edit(hash, kind, label, named, number, parent) {
+        return unfit(x);
     }
     let new = get_hash(hash, 0);
     let content = content_from(kind, label);
-    let rev = parent_from(named, number, parent);
-    edited(edit(replica, id, new, content, named == 1, rev))
+    let named = parent_from(named, number, parent);
+    edited(edit(replica, id, new, content, named))
 }
 
 pub fn refile_pull(target: &mut [u8], source: &[u8], after: u32, answer: &mut [u8]) -> u64
     requires { Lent target.old × Lent source.now }
     ensures { Keeps (pull_call target.old source.now after answer.old) result (target.new, answer.new) target.new }
 {
-    let lent = bad_replica(target);
-    if lent != 0 {
-        return refused(lent);
+    if let Err(x) = check_replica(target) {
+        return unfit(x);
     }
-    let read = bad_replica(source);
-    if read != 0 {
-        return refused(read);
+    if let Err(x) = check_replica(source) {
+        return unfit(x);
     }
     if answer.len() < COUNTS {
         return refused(SHORT_ANSWER);

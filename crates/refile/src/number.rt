@@ -1,27 +1,25 @@
 // One number for each outcome.
 ghost use Rattle.std.specs.Prelude.{◌≡◌, ◌+◌, ◌*◌, ◌≤◌};
 ghost use Rattle.rules.specs.Answer.{refused, written_number, edited_number, answered_number, loaded_number};
-ghost use Rattle.refile.specs.Boundary.{result_number, content_from, RefusalOf, SmallPlace, House, lent_house};
+ghost use Rattle.refile.specs.Boundary.{result_number, content_from, RefusalOf, SmallPlace, lent_house};
+ghost use Rattle.refile.specs.House.{House, house_number};
 
 use faults::fault_number;
 use layout::SIZE;
 use octets::number::get2;
-use rules::{Answered, Content, Edited, Loaded, Outcome, Refusal, Written};
+use rules::{Content, Fault, Outcome, Refusal, RevNumber};
 
-// The house refusals: what this boundary can get and the rules have no number for.
-pub(crate) const BAD_REPLICA: u64 = 100;
-
-pub(crate) const BAD_KIND: u64 = 101;
-
-pub(crate) const BAD_LABEL: u64 = 102;
-
-pub(crate) const BAD_FLAG: u64 = 103;
-
-pub(crate) const BAD_HASH: u64 = 104;
-
-pub(crate) const BAD_NO_PARENT: u64 = 105;
-
-const BAD_START: u64 = 106;
+// The house refusals, each with its number: what this boundary can get and the rules have no number for.
+#[derive(Clone, Copy)]
+pub(crate) enum HouseRefusal {
+    BadReplica = 100,
+    BadKind = 101,
+    BadLabel = 102,
+    BadFlag = 103,
+    BadHash = 104,
+    BadNoParent = 105,
+    BadStart = 106,
+}
 
 // The kinds of content, as in an image row.
 pub(crate) const LIVE: u32 = 1;
@@ -31,17 +29,17 @@ pub(crate) const DELETED: u32 = 2;
 // An answer buffer that is too short.
 pub(crate) const SHORT_ANSWER: u64 = 14;
 
-// The house refusal of a buffer that is lent as a replica, 0 if there is none.
-pub(crate) fn bad_replica(replica: &[u8]) -> u64
+// The house refusals of a buffer that is lent as a replica.
+pub(crate) fn check_replica(replica: &[u8]) -> Result<(), HouseRefusal>
     ensures { House (lent_house replica.now) result }
 {
     if replica.len() != SIZE {
-        return BAD_REPLICA;
+        return Err(HouseRefusal::BadReplica);
     }
     if get2(replica, 0) != 0 {
-        return BAD_START;
+        return Err(HouseRefusal::BadStart);
     }
-    0
+    Ok(())
 }
 
 // The number of a refusal.
@@ -79,44 +77,51 @@ pub(crate) fn refused(n: u64) -> u64
     9223372036854775808 + n * 4294967296
 }
 
-pub(crate) fn written(a: Written) -> u64
+// A call that the house refuses. C gets a number and no Result, so that none of the calls that it sees can
+// hand a refusal on by `?`.
+pub(crate) fn unfit(x: HouseRefusal) -> u64
+    ensures { result ≡ result_number (refused (house_number x)) }
+{
+    refused(x as u64)
+}
+
+// A function for each answer: a trait with its law for these three is longer, and no plainer.
+pub(crate) fn written(a: Result<Outcome, Refusal>) -> u64
     ensures { result ≡ result_number (written_number a) }
 {
     match a {
-        Written::Accepted(o) => match o {
-            Outcome::Changed => 1,
-            Outcome::Unchanged => 0,
-        },
-        Written::Refused(n) => refused(refusal_number(n)),
+        Ok(Outcome::Changed) => 1,
+        Ok(Outcome::Unchanged) => 0,
+        Err(n) => refused(refusal_number(n)),
     }
 }
 
-pub(crate) fn edited(a: Edited) -> u64
+pub(crate) fn edited(a: Result<RevNumber, Refusal>) -> u64
     ensures { result ≡ result_number (edited_number a) }
 {
     match a {
-        Edited::Accepted(n) => n.0 as u64,
-        Edited::Refused(n) => refused(refusal_number(n)),
+        Ok(n) => n.0 as u64,
+        Err(n) => refused(refusal_number(n)),
     }
 }
 
-pub(crate) fn answered(a: Answered) -> u64
+pub(crate) fn answered(a: Result<usize, Refusal>) -> u64
     ensures { result ≡ result_number (answered_number a) }
 {
     match a {
-        Answered::Count(n) => n as u64,
-        Answered::Refused(n) => refused(refusal_number(n)),
+        Ok(n) => n as u64,
+        Err(n) => refused(refusal_number(n)),
     }
 }
 
 // An image's refusal has its place in the lower half.
-pub(crate) fn loaded(a: Loaded) -> u64
+pub(crate) fn loaded(a: Result<(), (Fault, usize)>) -> u64
     requires { SmallPlace a }
     ensures { result ≡ result_number (loaded_number a) }
 {
     match a {
-        Loaded::Accepted => 0,
-        Loaded::Refused(f, place) => refused(fault_number(f) as u64) + (place as u64),
+        Ok(()) => 0,
+        Err((f, place)) => refused(fault_number(f) as u64) + (place as u64),
     }
 }
 

@@ -5,16 +5,18 @@ ghost use Rattle.rules.specs.Choice.{maybe};
 ghost use Rattle.rules.specs.Read.{front, first_of, documents_after};
 ghost use Rattle.store.specs.Documents.{documents_of};
 ghost use Rattle.store.specs.Storage.{IsStored};
-ghost use Rattle.refile.specs.Boundary.{Lent, Calls, result_number, short_answer, flag_number, change_bytes, winner_call, leaves_call, path_call, missing_call, put_out_call, put_out_size_call, changes_call, sequence_call, counts_call, report_call};
+ghost use Rattle.refile.specs.Boundary.{Lent, Calls, result_number, short_answer, change_bytes, winner_call, leaves_call, path_call, missing_call, put_out_call, put_out_size_call, changes_call, sequence_call, counts_call, report_call};
 
 use crate::answer::put_numbers;
-use crate::number::{BAD_HASH, SHORT_ANSWER, answered, bad_replica, refusal_number, refused};
+use crate::number::{
+    HouseRefusal, SHORT_ANSWER, answered, check_replica, refusal_number, refused, unfit,
+};
 use octets::run::get_hash;
 use puts::{put_out, put_out_size};
 use reads::document::{leaves, missing, path, winner};
 use reads::replica::{changes, counts, next_after, sequence};
 use report::report;
-use rules::{Change, Changes, HASH, Next, RevNumber, Revision, Seq};
+use rules::{Change, HASH, RevNumber, Revision, Seq};
 
 // What changes and counts write to their answer.
 const CHANGES: usize = 16;
@@ -25,9 +27,8 @@ pub fn refile_winner(replica: &[u8], id: &[u8], out: &mut [u8]) -> u64
     requires { Lent replica.now }
     ensures { Calls (winner_call replica.now id.now out.old) result out.new }
 {
-    let lent = bad_replica(replica);
-    if lent != 0 {
-        return refused(lent);
+    if let Err(x) = check_replica(replica) {
+        return unfit(x);
     }
     answered(winner(replica, id, out))
 }
@@ -36,9 +37,8 @@ pub fn refile_leaves(replica: &[u8], id: &[u8], out: &mut [u8]) -> u64
     requires { Lent replica.now }
     ensures { Calls (leaves_call replica.now id.now out.old) result out.new }
 {
-    let lent = bad_replica(replica);
-    if lent != 0 {
-        return refused(lent);
+    if let Err(x) = check_replica(replica) {
+        return unfit(x);
     }
     answered(leaves(replica, id, out))
 }
@@ -47,12 +47,11 @@ pub fn refile_path(replica: &[u8], id: &[u8], number: u32, hash: &[u8], out: &mu
     requires { Lent replica.now }
     ensures { Calls (path_call replica.now id.now number hash.now out.old) result out.new }
 {
-    let lent = bad_replica(replica);
-    if lent != 0 {
-        return refused(lent);
+    if let Err(x) = check_replica(replica) {
+        return unfit(x);
     }
     if hash.len() != HASH {
-        return refused(BAD_HASH);
+        return unfit(HouseRefusal::BadHash);
     }
     let rev = Revision {
         number: RevNumber(number),
@@ -65,9 +64,8 @@ pub fn refile_missing(replica: &[u8], id: &[u8], asked: &[u8], out: &mut [u8]) -
     requires { Lent replica.now }
     ensures { Calls (missing_call replica.now id.now asked.now out.old) result out.new }
 {
-    let lent = bad_replica(replica);
-    if lent != 0 {
-        return refused(lent);
+    if let Err(x) = check_replica(replica) {
+        return unfit(x);
     }
     answered(missing(replica, id, asked, out))
 }
@@ -76,9 +74,8 @@ pub fn refile_update_sequence(replica: &[u8]) -> u64
     requires { Lent replica.now }
     ensures { Calls (sequence_call replica.now) result tt }
 {
-    let lent = bad_replica(replica);
-    if lent != 0 {
-        return refused(lent);
+    if let Err(x) = check_replica(replica) {
+        return unfit(x);
     }
     let q = sequence(replica);
     q.0 as u64
@@ -88,9 +85,8 @@ pub fn refile_counts(replica: &[u8], answer: &mut [u8]) -> u64
     requires { Lent replica.now }
     ensures { Calls (counts_call replica.now answer.old) result answer.new }
 {
-    let lent = bad_replica(replica);
-    if lent != 0 {
-        return refused(lent);
+    if let Err(x) = check_replica(replica) {
+        return unfit(x);
     }
     if answer.len() < COUNTS {
         return refused(SHORT_ANSWER);
@@ -101,20 +97,13 @@ pub fn refile_counts(replica: &[u8], answer: &mut [u8]) -> u64
     0
 }
 
-fn flag(b: bool) -> usize
-    ensures { result ≡ flag_number b }
-{
-    if b { 1 } else { 0 }
-}
-
 // Writes what changed.
 fn put_change(c: Change, answer: &mut [u8])
     requires { 16 ≤ length answer.old }
     ensures { answer.new ≡ front (change_bytes c) answer.old }
 {
     let q = c.seq;
-    let gone = flag(c.deleted);
-    let ns = [c.id_len, q.0 as usize, c.leaves, gone];
+    let ns = [c.id_len, q.0 as usize, c.leaves, c.deleted as usize];
     put_numbers(answer, &ns);
 }
 
@@ -124,8 +113,8 @@ fn short_changes(replica: &[u8], after: Seq) -> u64
     ensures { result ≡ result_number (maybe (accepted 0) (λ _. short_answer) (first_of (documents_after after (documents_of replica.now)))) }
 {
     match next_after(replica, after) {
-        Next::Nobody => 0,
-        Next::At(_, _) => refused(SHORT_ANSWER),
+        None => 0,
+        Some((_, _)) => refused(SHORT_ANSWER),
     }
 }
 
@@ -133,9 +122,8 @@ pub fn refile_put_out(replica: &[u8], id: &[u8], out: &mut [u8]) -> u64
     requires { Lent replica.now }
     ensures { Calls (put_out_call replica.now id.now out.old) result out.new }
 {
-    let lent = bad_replica(replica);
-    if lent != 0 {
-        return refused(lent);
+    if let Err(x) = check_replica(replica) {
+        return unfit(x);
     }
     answered(put_out(replica, id, out))
 }
@@ -144,9 +132,8 @@ pub fn refile_put_out_size(replica: &[u8], id: &[u8]) -> u64
     requires { Lent replica.now }
     ensures { Calls (put_out_size_call replica.now id.now) result tt }
 {
-    let lent = bad_replica(replica);
-    if lent != 0 {
-        return refused(lent);
+    if let Err(x) = check_replica(replica) {
+        return unfit(x);
     }
     answered(put_out_size(replica, id))
 }
@@ -155,20 +142,19 @@ pub fn refile_changes(replica: &[u8], after: u32, out: &mut [u8], answer: &mut [
     requires { Lent replica.now }
     ensures { Calls (changes_call replica.now after out.old answer.old) result (out.new, answer.new) }
 {
-    let lent = bad_replica(replica);
-    if lent != 0 {
-        return refused(lent);
+    if let Err(x) = check_replica(replica) {
+        return unfit(x);
     }
     if answer.len() < CHANGES {
         return short_changes(replica, Seq(after));
     }
     match changes(replica, Seq(after), out) {
-        Changes::Next(c) => {
+        Ok(Some(c)) => {
             put_change(c, answer);
             1
         }
-        Changes::NoMore => 0,
-        Changes::Refused(n) => refused(refusal_number(n)),
+        Ok(None) => 0,
+        Err(n) => refused(refusal_number(n)),
     }
 }
 

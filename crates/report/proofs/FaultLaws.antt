@@ -2,7 +2,7 @@
 use mathlib.Core.Path.{◌≡◌, refl, sym, ap, ◌∙◌, subst}
 use mathlib.Core.Bool.{Bool, true, false, not}
 use mathlib.Core.List.{List, [], ◌∷◌}
-use mathlib.Core.Option.{Option, none, some}
+use Rattle.std.specs.Prelude.{Option, None, Some}
 use Prim.Native.Nat.{ℕ, suc, ◌+◌, ◌*◌, ◌≤◌}
 use native.Mathlib.Omega.{arith}
 use lib.Dec.{eqb, ltb, leb}
@@ -47,28 +47,28 @@ headed s e =
 
 -- a place that is given is at most n
 abbrev Most : ℕ → Option ℕ → Type 0
-Most n none = Unit {0}
-Most n (some p) = p ≤ n
+Most n None = Unit {0}
+Most n (Some p) = p ≤ n
 
 first_most : (k n : ℕ) (bs : List Bool) → k + length bs ≤ n → Most n (first_true k bs)
 unfolding first_true
 first_most k n [] h = tt
 first_most k n (b ∷ bs) h = go b (first_most (suc k) n bs (omega arith))
   where
-    go : (b : Bool) → Most n (first_true (suc k) bs) → Most n (pick b (some k) (first_true (suc k) bs))
+    go : (b : Bool) → Most n (first_true (suc k) bs) → Most n (pick b (Some k) (first_true (suc k) bs))
     go true i = omega arith
     go false i = i
 
 -- or else one that is d
-or_most : (n d : ℕ) (o : Option ℕ) (b : Bool) → Most n o → d ≤ n → Most n (or_else o (pick b none (some d)))
-or_most n d none true m h = tt
-or_most n d none false m h = h
-or_most n d (some p) b m h = m
+or_most : (n d : ℕ) (o : Option ℕ) (b : Bool) → Most n o → d ≤ n → Most n (or_else o (pick b None (Some d)))
+or_most n d None true m h = tt
+or_most n d None false m h = h
+or_most n d (Some p) b m h = m
 
 length-bad_entries : (place : ℕ) (before : Option Id) (es : List Entry) → length (bad_entries place before es) ≡ length es
 unfolding bad_entries
 length-bad_entries place before [] = refl
-length-bad_entries place before (e ∷ es) = ap suc (length-bad_entries (place + row_size * e.rows) (some e.id) es)
+length-bad_entries place before (e ∷ es) = ap suc (length-bad_entries (place + row_size * e.rows) (Some e.id) es)
 
 length-bad_seqs : (before : List ℕ) (es : List Entry) → length (bad_seqs before es) ≡ length es
 unfolding bad_seqs
@@ -78,7 +78,7 @@ length-bad_seqs before (e ∷ es) = ap suc (length-bad_seqs (e.seq ∷ before) e
 length-bad_rows : (before : Option Revision) (ws : List Row) → length (bad_rows before ws) ≡ length ws
 unfolding bad_rows
 length-bad_rows before [] = refl
-length-bad_rows before (w ∷ ws) = ap suc (length-bad_rows (some w.rev) ws)
+length-bad_rows before (w ∷ ws) = ap suc (length-bad_rows (Some w.rev) ws)
 
 length-bad_links : (ws : List Row) → length (bad_links ws) ≡ length ws
 unfolding bad_links
@@ -111,9 +111,9 @@ module _ (s : List ℕ) (d : (head_of s).documents ≤ documents_most) (r : (hea
   contents_most : Most revisions_most (bad_contents s)
   unfolding bad_contents
   contents_most =
-      let bs : List Bool = bad_entries (head_size + entry_size * (head_of s).documents) none (entries_of s) in
+      let bs : List Bool = bad_entries (head_size + entry_size * (head_of s).documents) None (entries_of s) in
       let n : 0 + length bs ≤ revisions_most =
-      omega (arith, entries_most, length-bad_entries (head_size + entry_size * (head_of s).documents) none (entries_of s)) in
+      omega (arith, entries_most, length-bad_entries (head_size + entry_size * (head_of s).documents) None (entries_of s)) in
       or_most revisions_most (head_of s).documents (first_true 0 bs) (eqb (sum_rows (entries_of s)) (head_of s).revisions) (first_most 0 revisions_most bs n) (omega arith)
 
   sequence_most : Most revisions_most (bad_sequence s)
@@ -128,27 +128,27 @@ module _ (s : List ℕ) (d : (head_of s).documents ≤ documents_most) (r : (hea
   rows_bad_most f h = first_most 0 revisions_most _ (omega (arith, rows_most, length-in_each f h (entries_of s) (rows_of s)))
 
 at_most : (f : Fault) (o : Option ℕ) → Most revisions_most o → (at f o).1.1 ≤ revisions_most
-at_most f none m = omega arith
-at_most f (some p) m = m
+at_most f None m = omega arith
+at_most f (Some p) m = m
 
 -- what is so of each is so of the first that holds
-first_each : {A : Type 0} (P : A → Type 0) (ts : List (Bool × A)) → Each (λ t. P t.1) ts → (a : A) → first_that ts ≡ some a → P a
+first_each : {A : Type 0} (P : A → Type 0) (ts : List (Bool × A)) → Each (λ t. P t.1) ts → (a : A) → first_that ts ≡ Some a → P a
 unfolding first_that
 first_each P [] h a e = absurd (none≢some e)
 first_each P (t ∷ ts) h a e = go t.0 e (λ k. first_each P ts h.1 a k)
   where
-    go : (b : Bool) → pick b (some t.1) (first_that ts) ≡ some a → (first_that ts ≡ some a → P a) → P a
+    go : (b : Bool) → pick b (Some t.1) (first_that ts) ≡ Some a → (first_that ts ≡ Some a → P a) → P a
     go true k f = subst P (some_inj k) h.0
     go false k f = f k
 
 -- the first three conditions give place 0
-first_three : (a b : Bool) (x y z : Fault) (f : Fault × ℕ) → pick a (some (x, 0)) (pick b (some (y, 0)) (some (z, 0))) ≡ some f → f.1 ≤ revisions_most
+first_three : (a b : Bool) (x y z : Fault) (f : Fault × ℕ) → pick a (Some (x, 0)) (pick b (Some (y, 0)) (Some (z, 0))) ≡ Some f → f.1 ≤ revisions_most
 first_three true b x y z f e = let p : 0 ≡ f.1 = ap (λ (g : Fault × ℕ). g.1) (some_inj e) in omega arith
 first_three false true x y z f e = let p : 0 ≡ f.1 = ap (λ (g : Fault × ℕ). g.1) (some_inj e) in omega arith
 first_three false false x y z f e = let p : 0 ≡ f.1 = ap (λ (g : Fault × ℕ). g.1) (some_inj e) in omega arith
 
 -- no place is above the most revisions
-pub place_most : (s : List ℕ) (f : Fault × ℕ) → first_that (faults s) ≡ some f → f.1 ≤ revisions_most
+pub place_most : (s : List ℕ) (f : Fault × ℕ) → first_that (faults s) ≡ Some f → f.1 ≤ revisions_most
 place_most s f e = go (bad_head s) refl
   where
     head : bad_head s ≡ true → f.1 ≤ revisions_most
@@ -171,7 +171,7 @@ place_most s f e = go (bad_head s) refl
                 (
                   at_most BadSequence (bad_sequence s) (sequence_most s d r),
                   (
-                    at_most BadRow (first_true 0 (in_each (bad_rows none) (deal (entries_of s) (rows_of s)))) (rows_bad_most s d r (bad_rows none) (length-bad_rows none)),
+                    at_most BadRow (first_true 0 (in_each (bad_rows None) (deal (entries_of s) (rows_of s)))) (rows_bad_most s d r (bad_rows None) (length-bad_rows None)),
                     (
                       at_most BadParent (first_true 0 (in_each bad_links (deal (entries_of s) (rows_of s)))) (rows_bad_most s d r bad_links length-bad_links),
                       tt,
@@ -201,17 +201,17 @@ bad_long s h = go (bad_head s) refl
 long_fault : List ℕ → Fault × ℕ
 long_fault s = pick (not (eqb (head_of s).edition 1)) (BadEdition, 0) (BadHead, 0)
 
-pick_some : {A : Type 0} (b : Bool) (x y : A) → pick b (some x) (some y) ≡ some (pick b x y)
+pick_some : {A : Type 0} (b : Bool) (x y : A) → pick b (Some x) (Some y) ≡ Some (pick b x y)
 pick_some true x y = refl
 pick_some false x y = refl
 
-long_fault_lem : (s : List ℕ) → input_most ≤ length s → first_that (faults s) ≡ some (long_fault s)
+long_fault_lem : (s : List ℕ) → input_most ≤ length s → first_that (faults s) ≡ Some (long_fault s)
 unfolding faults first_that long_fault
 long_fault_lem s h =
     let l : head_size ≤ length s = omega arith in
     rw (le-ltb (length s) head_size l, bad_long s h) (pick_some (not (eqb (head_of s).edition 1)) (BadEdition, 0) (BadHead, 0))
 
-pub report_refused : (s : List ℕ) (f : Fault × ℕ) → first_that (faults s) ≡ some f → report s ≡ refused_text f
+pub report_refused : (s : List ℕ) (f : Fault × ℕ) → first_that (faults s) ≡ Some f → report s ≡ refused_text f
 unfolding report
 report_refused s f e = rw e refl
 

@@ -1,11 +1,10 @@
 -- What a load answered, and the report that goes with it. Assumes nothing.
 use mathlib.Core.Path.{◌≡◌, refl, sym, ap, ◌∙◌, subst}
+use Rattle.std.specs.Prelude.{Result, Ok, Err}
 use mathlib.Core.List.{List}
-use mathlib.Core.Option.{Option, none, some}
+use Rattle.std.specs.Prelude.{Option, None, Some}
 use Prim.Native.Nat.{ℕ}
 use Rattle.rules.specs.declared.Fault.{Fault}
-use Rattle.rules.specs.declared.Loaded.{Loaded}
-use Rattle.rules.specs.declared.Loaded.TheVariants.{Accepted, Refused}
 use Rattle.rules.specs.Choice.{first_that}
 use Rattle.rules.specs.Faults.{faults}
 use Rattle.rules.specs.Image.{replica_in}
@@ -18,28 +17,28 @@ use Rattle.report.specs.Loaded.{loaded_text, Answers}
 use Rattle.report.proofs.FaultLaws.{place_most, report_refused}
 
 -- what was answered to an image and left in b gives the image's report
-pub record Judged (image b : List ℕ) (l : Loaded) : Type 0 where
+pub record Judged (image b : List ℕ) (l : Result (Unit {0}) (Fault × ℕ)) : Type 0 where
   pub answers : Answers l b
   pub text : loaded_text l b ≡ report image
 
-judged_accepted : (image b : List ℕ) → first_that (faults image) ≡ none → IsStored b → replica_of b ≡ replica_in image → Judged image b Accepted
+judged_accepted : (image b : List ℕ) → first_that (faults image) ≡ None → IsStored b → replica_of b ≡ replica_in image → Judged image b (Ok tt)
 unfolding report
 judged_accepted image b e h m = record { answers = h; text = ap replica_text m ∙ sym (rw e refl) }
 
-judged_refused : (image b : List ℕ) (f : Fault × ℕ) → first_that (faults image) ≡ some f → Judged image b (Refused f.0 f.1)
+judged_refused : (image b : List ℕ) (f : Fault × ℕ) → first_that (faults image) ≡ Some f → Judged image b (Err f)
 judged_refused image b f e = record { answers = place_most image f e; text = sym (report_refused image f e) }
 
 -- it is what a load says
-pub load_judges : {before image b : List ℕ} {l : Loaded} → Loads before image l b → Judged image b l
+pub load_judges : {before image b : List ℕ} {l : Result (Unit {0}) (Fault × ℕ)} → Loads before image l b → Judged image b l
 load_judges {before} {image} {b} {l} h = go (first_that (faults image)) refl
   where
     says : (o : Option (Fault × ℕ)) → first_that (faults image) ≡ o → l ≡ (load_bytes before image o).0
     says o e = h.does.answers ∙ ap (λ (x : Option (Fault × ℕ)). (load_bytes before image x).0) e
 
     go : (o : Option (Fault × ℕ)) → first_that (faults image) ≡ o → Judged image b l
-    go none e =
-        let q = says none e in
+    go None e =
+        let q = says None e in
         let m : replica_of b ≡ replica_in image =
-        ap (λ (x : Loaded × Replica). x.1) (sym h.means ∙ loads (replica_of before) image e) in
+        ap (λ (x : Result (Unit {0}) (Fault × ℕ) × Replica). x.1) (sym h.means ∙ loads (replica_of before) image e) in
         subst (Judged image b) (sym q) (judged_accepted image b e (h.accepted q) m)
-    go (some f) e = subst (Judged image b) (sym (says (some f) e)) (judged_refused image b f e)
+    go (Some f) e = subst (Judged image b) (sym (says (Some f) e)) (judged_refused image b f e)

@@ -1,6 +1,7 @@
 -- What a document's line says of its tree, and the line put together. Assumes nothing.
 use mathlib.Core.Path.{◌≡◌, refl, sym, ap, ◌∙◌}
 use mathlib.Core.List.{List, [], ◌∷◌, ◌++◌, map, append_assoc, append-nil}
+use Rattle.std.specs.Prelude.{Option, Some, true, is_some}
 use Prim.Native.Nat.{ℕ, ◌+◌, ◌-◌, ◌≤◌, ◌<◌}
 use native.Mathlib.Numerals.{add-one}
 use native.Mathlib.Omega.{arith}
@@ -10,7 +11,7 @@ use Rattle.rules.specs.declared.Revision.{Revision}
 use Rattle.rules.specs.declared.Seq.{Seq}
 use Rattle.rules.specs.Bytes.{join}
 use Rattle.rules.specs.Map.{Map}
-use Rattle.rules.specs.Read.{leaves, conflicts}
+use Rattle.rules.specs.Read.{LeafOf, leaves, winner, conflicts}
 use Rattle.rules.specs.Replica.{Id, Tree, Document, Replica, IsTree}
 use Rattle.rules.specs.Report.{decimal, hex, text, line_of, rev_text, line_text, head_text, replica_text, own_word, winner_word}
 use Rattle.rules.specs.Room.{id_most}
@@ -18,8 +19,6 @@ use Rattle.rules.proofs.ByteLaws.{join_append}
 use Rattle.images.proofs.Lists.{map-append}
 use Rattle.octets.proofs.SpliceLaws.{splice_none}
 use Rattle.text.specs.Text.{Put}
-use Rattle.tree.specs.declared.leaf.Winner.{Winner}
-use Rattle.tree.specs.Leaf.{IsWinner}
 use Rattle.store.specs.Storage.{IsStored}
 use Rattle.store.specs.Documents.{documents_of, document_at, no_document}
 use Rattle.report.specs.Lines.{counts_text, winner_rev, standing_text, lines_text}
@@ -29,10 +28,13 @@ use Rattle.report.proofs.WinnerLaws.{conflict_count}
 
 -- ---- the winner
 
--- a tree has one, so its revision is the one that was found
-pub winner_rev_lem : {t : Tree} {w : Winner} → IsTree t → IsWinner t w → w.rev ≡ winner_rev t
+-- a tree has one
+pub some_winner : {t : Tree} {o : Option LeafOf} → IsTree t → o ≡ winner t → is_some o ≡ true
+some_winner {t} h e = rw (e, (has_winner t h).1) refl
+
+pub winner_rev_lem : (t : Tree) {o : Option LeafOf} {a : LeafOf} → o ≡ winner t → o ≡ Some a → a.rev ≡ winner_rev t
 unfolding winner_rev
-winner_rev_lem {t} h is = let a = (has_winner t h).1 in ap (λ (v : Winner). v.rev) is.exact ∙ rw a refl
+winner_rev_lem t e f = rw (sym e, f) refl
 
 -- ---- the documents of a buffer
 

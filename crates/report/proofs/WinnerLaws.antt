@@ -1,14 +1,14 @@
 -- A document's conflicts are one fewer than its leaves. Assumes nothing.
 use mathlib.Core.Path.{◌≡◌, refl, sym, ap, ◌∙◌}
+use Rattle.std.specs.declared.cmp.Ordering.TheVariants.{Less, Equal, Greater}
+use Rattle.std.specs.declared.cmp.Ordering.{Ordering}
 use mathlib.Core.List.{List, [], ◌∷◌, ◌++◌}
 use mathlib.Core.Logic.{◌⊎◌, inl, inr}
-use mathlib.Core.Option.{Option, none, some}
+use Rattle.std.specs.Prelude.{Option, None, Some}
 use Prim.Native.Nat.{suc, ◌+◌}
 use native.Mathlib.Omega.{arith}
 use lib.ListN.{length}
 use Rattle.rules.specs.declared.Content.{Content}
-use Rattle.rules.specs.declared.Order.{Order}
-use Rattle.rules.specs.declared.Order.TheVariants.{Less, Equal, Greater}
 use Rattle.rules.specs.declared.Revision.{Revision}
 use Rattle.rules.specs.Choice.{maybe, pick}
 use Rattle.rules.specs.Map.{Ascending}
@@ -42,13 +42,13 @@ apart_append (x ∷ xs) ys p q f = (other, apart_append xs ys p.1 q (λ a b m k.
 
 -- the leaf that an entry is, if any
 one_leaf : (v : Revision) (o : Option Content) → Apart (maybe [] (λ c. leaf_of v c ∷ []) o)
-one_leaf v none = tt
-one_leaf v (some c) = (λ b m e. m, tt)
+one_leaf v None = tt
+one_leaf v (Some c) = (λ b m e. m, tt)
 
 leaf_rev : (v : Revision) (o : Option Content) (a : LeafOf) → In a (maybe [] (λ c. leaf_of v c ∷ []) o) → a.rev ≡ v
-leaf_rev v none a m = absurd m
-leaf_rev v (some c) a (inl e) = ap (λ (z : LeafOf). z.rev) e
-leaf_rev v (some c) a (inr m) = absurd m
+leaf_rev v None a m = absurd m
+leaf_rev v (Some c) a (inl e) = ap (λ (z : LeafOf). z.rev) e
+leaf_rev v (Some c) a (inr m) = absurd m
 
 leaves_apart : (t : Tree) → Ascending order_rev t → Apart (leaves t)
 unfolding leaves
@@ -66,7 +66,7 @@ unfolding not_at same_rev
 not_at_none v [] f = refl
 not_at_none v (a ∷ ls) f = go (order_rev v a.rev) refl (not_at_none v ls (λ b m. f b (inr m)))
   where
-    go : (o : Order) → order_rev v a.rev ≡ o → not_at v ls ≡ ls → pick (is_equal o) (not_at v ls) (a ∷ not_at v ls) ≡ a ∷ ls
+    go : (o : Ordering) → order_rev v a.rev ≡ o → not_at v ls ≡ ls → pick (is_equal o) (not_at v ls) (a ∷ not_at v ls) ≡ a ∷ ls
     go Less e ih = ap (λ (l : List LeafOf). a ∷ l) ih
     go Equal e ih = absurd (f a (inl refl) (order_rev_same v a.rev e))
     go Greater e ih = ap (λ (l : List LeafOf). a ∷ l) ih
@@ -80,7 +80,7 @@ not_at_one w (a ∷ ls) p (inl e) =
     rw s (ap (λ (l : List LeafOf). suc (length l)) (not_at_none w.rev ls (λ b m q. p.0 b m (sym r ∙ q))))
 not_at_one w (a ∷ ls) p (inr m) = go (order_rev w.rev a.rev) refl (not_at_one w ls p.1 m)
   where
-    go : (o : Order) → order_rev w.rev a.rev ≡ o → suc (length (not_at w.rev ls)) ≡ length ls
+    go : (o : Ordering) → order_rev w.rev a.rev ≡ o → suc (length (not_at w.rev ls)) ≡ length ls
         → suc (length (pick (is_equal o) (not_at w.rev ls) (a ∷ not_at w.rev ls))) ≡ length (a ∷ ls)
     go Less e ih = ap suc ih
     go Equal e ih = absurd (p.0 w m (sym (order_rev_same w.rev a.rev e)))

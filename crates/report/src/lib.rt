@@ -18,33 +18,33 @@ use codec::load;
 use layout::SIZE;
 use line::{put_refused, put_replica};
 use octets::run::copy_in;
-use rules::{Answered, DOCUMENTS, Loaded, Refusal};
+use rules::{DOCUMENTS, Fault, Refusal};
 use words::{HEAD_MOST, LINE_MOST};
 
 // The longest report: a head line, and a line for each document.
 pub const REPORT_MOST: usize = HEAD_MOST + LINE_MOST * DOCUMENTS;
 
 // The report of what a load answered and left in b.
-fn put_loaded(loaded: Loaded, b: &[u8], s: &mut [u8]) -> usize
+fn put_loaded(loaded: Result<(), (Fault, usize)>, b: &[u8], s: &mut [u8]) -> usize
     requires { CanPutLoaded loaded b.now s.old }
     ensures { PutWithin report_most (loaded_text loaded b.now) s.old 0 result s.new }
 {
     match loaded {
-        Loaded::Accepted => put_replica(b, s),
-        Loaded::Refused(f, place) => put_refused(s, f, place as u32),
+        Ok(()) => put_replica(b, s),
+        Err((f, place)) => put_refused(s, f, place as u32),
     }
 }
 
 // Hands the first n bytes of s over, or refuses where they don't fit.
-fn hand_over(s: &[u8], n: usize, out: &mut [u8]) -> Answered
+fn hand_over(s: &[u8], n: usize, out: &mut [u8]) -> Result<usize, Refusal>
     requires { n ≤ length s.now }
     ensures { Does (reads [] n (take n s.now) out.old) result out.new }
 {
     if out.len() < n {
-        return Answered::Refused(Refusal::ShortBuffer);
+        return Err(Refusal::ShortBuffer);
     }
     copy_in(out, 0, &s[..n]);
-    Answered::Count(n)
+    Ok(n)
 }
 
 // Writes the report of an image at the front of a buffer that holds every report.
@@ -57,7 +57,7 @@ pub fn put_report(image: &[u8], out: &mut [u8; REPORT_MOST]) -> usize
 }
 
 // The same for a buffer of any length: 14 where the report doesn't fit.
-pub fn report(image: &[u8], out: &mut [u8]) -> Answered
+pub fn report(image: &[u8], out: &mut [u8]) -> Result<usize, Refusal>
     ensures { Does (read_report image.now out.old) result out.new }
 {
     let mut t = [0u8; REPORT_MOST];

@@ -70,9 +70,9 @@ fn put_standing(b: &[u8], body: Body, s: &mut [u8], at: usize) -> usize
     ensures { PutWithin standing_most (standing_text (tree_in body b.now)) s.old at result s.new }
 {
     let w = put_word(s, at, &WINNER);
-    let top = winner_of(b, body);
-    let rev = top.rev;
-    let c = put_rev(s, w, rev);
+    // A tree has a winner.
+    let top = winner_of(b, body).unwrap();
+    let c = put_rev(s, w, top.rev);
     put_counts(s, c, leaf_count(b, body))
 }
 
@@ -95,10 +95,8 @@ fn put_lines(b: &[u8], s: &mut [u8], at: usize) -> usize
 {
     let n = documents_held(b);
     let mut next = at;
-    let mut d = 0;
-    while d < n {
+    for d in 0..n {
         next = put_line(b, d, s, next);
-        d += 1;
     }
     next
 }

@@ -2,7 +2,7 @@
 use mathlib.Core.Path.{◌≡◌, refl, sym, ap, ap₂, ◌∙◌}
 use mathlib.Core.Bool.{Bool, true, false, not, ◌||◌, or-true, true≢false}
 use mathlib.Core.List.{List, [], ◌∷◌}
-use mathlib.Core.Option.{Option, none, some}
+use Rattle.std.specs.Prelude.{Option, None, Some}
 use Prim.Native.Nat.{◌+◌}
 use native.Mathlib.Nat.{zero-add}
 use native.Mathlib.Omega.{arith}
@@ -35,15 +35,15 @@ true_agree a b e = rw e (agree_self b)
 
 -- two that are there and don't differ are the same to the test
 module _ {A : Type 0} (same : A → A → Bool) where
-  pub differ_same : (x y : Option A) → differ same x y ≡ false → (a b : A) → x ≡ some a → y ≡ some b → same a b ≡ true
-  differ_same none y e a b p q = absurd (none≢some p)
-  differ_same (some c) none e a b p q = absurd (none≢some q)
-  differ_same (some c) (some d) e a b p q = rw (some_inj p, some_inj q) at (not-false (same c d) e)
+  pub differ_same : (x y : Option A) → differ same x y ≡ false → (a b : A) → x ≡ Some a → y ≡ Some b → same a b ≡ true
+  differ_same None y e a b p q = absurd (none≢some p)
+  differ_same (Some c) None e a b p q = absurd (none≢some q)
+  differ_same (Some c) (Some d) e a b p q = rw (some_inj p, some_inj q) at (not-false (same c d) e)
 
-  pub same_differ : (x y : Option A) → ((a b : A) → x ≡ some a → y ≡ some b → same a b ≡ true) → differ same x y ≡ false
-  same_differ none y h = refl
-  same_differ (some a) none h = refl
-  same_differ (some a) (some b) h = ap not (h a b refl refl)
+  pub same_differ : (x y : Option A) → ((a b : A) → x ≡ Some a → y ≡ Some b → same a b ≡ true) → differ same x y ≡ false
+  same_differ None y h = refl
+  same_differ (Some a) None h = refl
+  same_differ (Some a) (Some b) h = ap not (h a b refl refl)
 
 -- ---- what is added
 
@@ -71,8 +71,8 @@ unfolding is_addition is_new is_new_parent
 addition t g = go (find order_rev g.0 t) refl
   where
     go : (o : Option Node) → find order_rev g.0 t ≡ o → is_addition t g ≡ (is_new t g || is_new_parent t g)
-    go none e = rw e refl
-    go (some n) e = rw e refl
+    go None e = rw e refl
+    go (Some n) e = rw e refl
 
 -- "Where nothing was added": neither a revision nor a parent
 counts_add : (t : Tree) (gs : List (Revision × Node)) → (ltb 0 (count_new t gs) || ltb 0 (count_parents t gs)) ≡ any (is_addition t) gs

@@ -1,12 +1,12 @@
 -- The orders are total: a comparison with its laws, for numbers, bytes and revisions. Assumes nothing.
 use mathlib.Core.Path.{◌≡◌, refl, sym, ap, ap₂, ◌∙◌, subst}
+use Rattle.std.specs.declared.cmp.Ordering.TheVariants.{Less, Equal, Greater}
+use Rattle.std.specs.declared.cmp.Ordering.{Ordering}
 use mathlib.Core.Bool.{true, true≢false}
 use mathlib.Core.List.{List, [], ◌∷◌}
 use Prim.Native.Nat.compare
 use Prim.Native.Nat.{ℕ, zero, suc, ◌<◌}
 use native.Mathlib.Omega.{arith}
-use Rattle.rules.specs.declared.Order.{Order}
-use Rattle.rules.specs.declared.Order.TheVariants.{Less, Equal, Greater}
 use Rattle.rules.specs.declared.Revision.{Revision}
 use Rattle.rules.specs.Order.{from_ordering, order_n, and_then, order_bytes, order_rev, is_equal, same_rev}
 
@@ -21,7 +21,7 @@ equal≢greater e = let z : ◌≡◌ {A = ℕ} 0 1 = cc in omega arith
 
 -- a comparison that is a strict total order
 pub record TotalOrder (K : Type 0) : Type 0 where
-  pub cmp : K → K → Order
+  pub cmp : K → K → Ordering
   pub same : (a b : K) → cmp a b ≡ Equal → a ≡ b
   pub self : (a : K) → cmp a a ≡ Equal
   pub trans : (a b c : K) → cmp a b ≡ Less → cmp b c ≡ Less → cmp a c ≡ Less
@@ -33,7 +33,7 @@ no_less_self O a e = less≢equal (sym e ∙ O.self a)
 pub turn_less : {K : Type 0} (O : TotalOrder K) (a b : K) → O.cmp a b ≡ Less → O.cmp b a ≡ Greater
 turn_less {K} O a b e = go (O.cmp b a) refl
   where
-    go : (o : Order) → O.cmp b a ≡ o → o ≡ Greater
+    go : (o : Ordering) → O.cmp b a ≡ o → o ≡ Greater
     go Less p = absurd (no_less_self O a (O.trans a b a e p))
     go Equal p = absurd (no_less_self O a (subst (λ (x : K). O.cmp a x ≡ Less) (O.same b a p) e))
     go Greater p = refl
@@ -85,27 +85,27 @@ order_n_turn (suc a) (suc b) e = order_n_ss b a ∙ order_n_turn a b (sym (order
 
 -- ---- lists of numbers
 -- how a lexicographic answer comes about
-data Lex (o r : Order) : Type 0 where
+data Lex (o r : Ordering) : Type 0 where
   first : o ≡ Less → Lex o r
   rest : o ≡ Equal → r ≡ Less → Lex o r
 
-lex_lt : (o r : Order) → and_then o r ≡ Less → Lex o r
+lex_lt : (o r : Ordering) → and_then o r ≡ Less → Lex o r
 lex_lt Less r e = first refl
 lex_lt Equal r e = rest refl e
 lex_lt Greater r e = absurd (less≢greater (sym e))
 
-data LexEq (o r : Order) : Type 0 where
+data LexEq (o r : Ordering) : Type 0 where
   both : o ≡ Equal → r ≡ Equal → LexEq o r
 
-lex_eq : (o r : Order) → and_then o r ≡ Equal → LexEq o r
+lex_eq : (o r : Ordering) → and_then o r ≡ Equal → LexEq o r
 lex_eq Less r e = absurd (less≢equal e)
 lex_eq Equal r e = both refl e
 lex_eq Greater r e = absurd (equal≢greater (sym e))
 
-then_lt : (o r : Order) → o ≡ Less → and_then o r ≡ Less
+then_lt : (o r : Ordering) → o ≡ Less → and_then o r ≡ Less
 then_lt o r e = rw e refl
 
-then_eq : (o r : Order) → o ≡ Equal → and_then o r ≡ r
+then_eq : (o r : Ordering) → o ≡ Equal → and_then o r ≡ r
 then_eq o r e = rw e refl
 
 both_cons : (a b : ℕ) (xs ys : List ℕ) → LexEq (order_n a b) (order_bytes xs ys) → (order_bytes xs ys ≡ Equal → xs ≡ ys) → ◌≡◌ {A = List ℕ} (a ∷ xs) (b ∷ ys)
@@ -123,7 +123,7 @@ unfolding order_bytes
 order_bytes_self [] = refl
 order_bytes_self (a ∷ xs) = then_eq (order_n a a) (order_bytes xs xs) (order_n_self a) ∙ order_bytes_self xs
 
-trans_cons : (a b c : ℕ) (x y z : Order) → Lex (order_n a b) x → Lex (order_n b c) y → (x ≡ Less → y ≡ Less → z ≡ Less) → and_then (order_n a c) z ≡ Less
+trans_cons : (a b c : ℕ) (x y z : Ordering) → Lex (order_n a b) x → Lex (order_n b c) y → (x ≡ Less → y ≡ Less → z ≡ Less) → and_then (order_n a c) z ≡ Less
 trans_cons a b c x y z (first p) (first q) f =
     let h = order_n_less a b p in let k = order_n_less b c q in then_lt (order_n a c) z (less_order_n a c (omega arith))
 trans_cons a b c x y z (first p) (rest q r) f =
@@ -145,7 +145,7 @@ order_bytes_trans (a ∷ xs) (b ∷ ys) (c ∷ zs) p q =
     trans_cons a b c (order_bytes xs ys) (order_bytes ys zs) (order_bytes xs zs) (lex_lt (order_n a b) (order_bytes xs ys) p) (lex_lt (order_n b c) (order_bytes ys zs) q)
     (λ r t. order_bytes_trans xs ys zs r t)
 
-turn_cons : (a b : ℕ) (x y o : Order) → order_n a b ≡ o → (x ≡ Greater → y ≡ Less) → and_then o x ≡ Greater → and_then (order_n b a) y ≡ Less
+turn_cons : (a b : ℕ) (x y o : Ordering) → order_n a b ≡ o → (x ≡ Greater → y ≡ Less) → and_then o x ≡ Greater → and_then (order_n b a) y ≡ Less
 turn_cons a b x y Less e f p = absurd (less≢greater p)
 turn_cons a b x y Equal e f p = then_eq (order_n b a) y (subst (λ (n : ℕ). order_n n a ≡ Equal) (order_n_same a b e) (order_n_self a)) ∙ f p
 turn_cons a b x y Greater e f p = then_lt (order_n b a) y (order_n_turn a b e)
@@ -194,7 +194,7 @@ rev_order = record {
 
 -- ---- the test for the same revision
 
-is_equal_lem : (o : Order) → is_equal o ≡ true → o ≡ Equal
+is_equal_lem : (o : Ordering) → is_equal o ≡ true → o ≡ Equal
 is_equal_lem Less e = absurd (true≢false (sym e))
 is_equal_lem Equal e = refl
 is_equal_lem Greater e = absurd (true≢false (sym e))

@@ -2,14 +2,16 @@
 -- an example that holds the definitions to a sentence of 01: a definition that read the sentence otherwise would be
 -- refused there. Assumes nothing.
 use mathlib.Core.Path.{◌≡◌, refl}
+use Rattle.rules.specs.declared.Refusal.{Refusal}
+use Rattle.rules.specs.declared.Outcome.{Outcome}
+use Rattle.std.specs.Prelude.{Result}
 use mathlib.Core.List.{List, [], ◌∷◌, ◌++◌, map}
-use mathlib.Core.Option.{none, some, Option}
+use Rattle.std.specs.Prelude.{None, Some, Option}
 use Prim.Native.Nat.{ℕ, zero, suc, ◌+◌, ◌-◌}
 use lib.ListN.{length, take, drop, replicate}
 use Rattle.rules.specs.declared.Content.{Content}
 use Rattle.rules.specs.declared.Content.TheVariants.{Live, Deleted}
 use Rattle.rules.specs.declared.Revision.{Revision}
-use Rattle.rules.specs.declared.Written.{Written}
 use Rattle.rules.specs.Answer.{written_number}
 use Rattle.rules.specs.Bytes.{pieces, join}
 use Rattle.rules.specs.Choice.{any, how_many, first_that}
@@ -23,7 +25,7 @@ use Rattle.rules.specs.Write.{Write, write, hashes, along, gives, add_all, added
 use Rattle.rules.specs.Write.{adds, bad_id, bad_path, low_number, other_parent, other_content, documents_full, revisions_full, sequence_spent, room_refusals, write_refusals}
 
 -- an answer as its refusal's number, 0 if accepted, and its value: of a write 1 changed, 0 unchanged
-abbrev pub wrote : Written → ℕ × ℕ
+abbrev pub wrote : Result Outcome Refusal → ℕ × ℕ
 wrote a = ((written_number a).refusal, (written_number a).value)
 
 -- what writes leave of a fresh replica
@@ -66,7 +68,7 @@ spent t = holding seq_most (doc lot seq_most t ∷ [])
 
 -- the largest number, sequence and label
 abbrev pub utmost : Replica
-utmost = spent (row (rev (number_most - 1) 0xff) none none ∷ row (rev number_most 0xff) (some (rev (number_most - 1) 0xff)) (some (Live (labels - 1))) ∷ [])
+utmost = spent (row (rev (number_most - 1) 0xff) None None ∷ row (rev number_most 0xff) (Some (rev (number_most - 1) 0xff)) (Some (Live (labels - 1))) ∷ [])
 
 -- ---- what writes leave
 
@@ -74,10 +76,10 @@ utmost = spent (row (rev (number_most - 1) 0xff) none none ∷ row (rev number_m
 abbrev pub forked : Replica
 forked = holding 2
     (doc lot 2
-    (row (rev 1 0xcc) none none
-    ∷ row (rev 2 0xbb) (some (rev 1 0xcc)) none
-    ∷ row (rev 2 0xdd) (some (rev 1 0xcc)) (some (Live 2))
-    ∷ row (rev 3 0xaa) (some (rev 2 0xbb)) (some (Live 1))
+    (row (rev 1 0xcc) None None
+    ∷ row (rev 2 0xbb) (Some (rev 1 0xcc)) None
+    ∷ row (rev 2 0xdd) (Some (rev 1 0xcc)) (Some (Live 2))
+    ∷ row (rev 3 0xaa) (Some (rev 2 0xbb)) (Some (Live 1))
     ∷ [])
     ∷ [])
 
@@ -85,37 +87,37 @@ forked = holding 2
 abbrev pub lots : Replica
 lots = holding 4
     (doc lot 4
-    (row (rev 1 0x20) none none
-    ∷ row (rev 2 0x4c) (some (rev 1 0x20)) (some (Live 9))
-    ∷ row (rev 2 0x91) (some (rev 1 0x20)) none
-    ∷ row (rev 3 0x05) (some (rev 2 0x91)) (some Deleted)
+    (row (rev 1 0x20) None None
+    ∷ row (rev 2 0x4c) (Some (rev 1 0x20)) (Some (Live 9))
+    ∷ row (rev 2 0x91) (Some (rev 1 0x20)) None
+    ∷ row (rev 3 0x05) (Some (rev 2 0x91)) (Some Deleted)
     ∷ [])
     ∷ [])
 
 -- a resurrected document: the deleted winner 1-20 has become the parent of 2-77
 abbrev pub risen : Replica
-risen = holding 2 (doc lot 2 (row (rev 1 0x20) none none ∷ row (rev 2 0x77) (some (rev 1 0x20)) (some (Live 3)) ∷ []) ∷ [])
+risen = holding 2 (doc lot 2 (row (rev 1 0x20) None None ∷ row (rev 2 0x77) (Some (rev 1 0x20)) (Some (Live 3)) ∷ []) ∷ [])
 
 -- the document a was written first and again last, bb between, as a deletion
 abbrev pub pair : Replica
 pair = holding 4
     (doc (0x61 ∷ []) 4
-    (row (rev 1 0x20) none none
-    ∷ row (rev 2 0x30) (some (rev 1 0x20)) (some (Live 1))
-    ∷ row (rev 2 0x40) (some (rev 1 0x20)) (some (Live 1))
+    (row (rev 1 0x20) None None
+    ∷ row (rev 2 0x30) (Some (rev 1 0x20)) (Some (Live 1))
+    ∷ row (rev 2 0x40) (Some (rev 1 0x20)) (Some (Live 1))
     ∷ [])
-    ∷ doc (0x62 ∷ 0x62 ∷ []) 2 (row (rev 1 0x20) none (some Deleted) ∷ [])
+    ∷ doc (0x62 ∷ 0x62 ∷ []) 2 (row (rev 1 0x20) None (Some Deleted) ∷ [])
     ∷ [])
 
 -- documents a (rows 0 to 2) and b (rows 3 and 4, the parent of the last being all zeros)
 abbrev pub two : Replica
 two = holding 4
     (doc (0x61 ∷ []) 3
-    (row (rev 1 0x10) none none
-    ∷ row (rev 2 0x20) (some (rev 1 0x10)) (some (Live 2))
-    ∷ row (rev 2 0x30) (some (rev 1 0x10)) (some Deleted)
+    (row (rev 1 0x10) None None
+    ∷ row (rev 2 0x20) (Some (rev 1 0x10)) (Some (Live 2))
+    ∷ row (rev 2 0x30) (Some (rev 1 0x10)) (Some Deleted)
     ∷ [])
-    ∷ doc (0x62 ∷ []) 4 (row (rev 2 0x00) none none ∷ row (rev 3 0x50) (some (rev 2 0x00)) (some (Live 5)) ∷ [])
+    ∷ doc (0x62 ∷ []) 4 (row (rev 2 0x00) None None ∷ row (rev 3 0x50) (Some (rev 2 0x00)) (Some (Live 5)) ∷ [])
     ∷ [])
 
 pub made : after (on lot 3 (0xaa ∷ 0xbb ∷ 0xcc ∷ []) (Live 1) ∷ on lot 2 (0xdd ∷ 0xcc ∷ []) (Live 2) ∷ [])

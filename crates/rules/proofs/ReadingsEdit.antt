@@ -1,11 +1,13 @@
 -- Readings of the ordinary edit and its refusals. Assumes nothing.
 use mathlib.Core.Path.{◌≡◌, refl}
+use Rattle.rules.specs.declared.RevNumber.{RevNumber}
+use Rattle.rules.specs.declared.Refusal.{Refusal}
+use Rattle.std.specs.Prelude.{Result}
 use mathlib.Core.List.{List, [], ◌∷◌, ◌++◌, map}
-use mathlib.Core.Option.{none, some}
+use Rattle.std.specs.Prelude.{None, Some}
 use Prim.Native.Nat.{ℕ, ◌-◌}
 use Rattle.rules.specs.declared.Content.{Content}
 use Rattle.rules.specs.declared.Content.TheVariants.{Live, Deleted}
-use Rattle.rules.specs.declared.Edited.{Edited}
 use Rattle.rules.specs.Answer.{edited_number}
 use Rattle.rules.specs.Bytes.{pieces, join}
 use Rattle.rules.specs.Choice.{any, how_many, first_that}
@@ -22,15 +24,15 @@ use Rattle.rules.specs.Write.{bad_path, low_number, other_parent, other_content,
 use Rattle.rules.proofs.Readings.{after, row, rev, shelf, spent, lots, risen}
 
 -- an answer as its refusal's number, 0 if accepted, and the new number
-abbrev pub edits : Edited → ℕ × ℕ
+abbrev pub edits : Result RevNumber Refusal → ℕ × ℕ
 edits a = ((edited_number a).refusal, (edited_number a).value)
 
 -- an edit that names a parent by number and first byte, and one that names none
 abbrev pub under : Id → ℕ → ℕ → ℕ → Content → Edit
-under i n p h c = record { id = i; hash = hash h; content = c; parent = some (rev n p) }
+under i n p h c = record { id = i; hash = hash h; content = c; parent = Some (rev n p) }
 
 abbrev pub alone : Id → ℕ → Content → Edit
-alone i h c = record { id = i; hash = hash h; content = c; parent = none }
+alone i h c = record { id = i; hash = hash h; content = c; parent = None }
 
 abbrev pub edits_on : Replica → List Edit → List (ℕ × ℕ)
 edits_on r es = map (λ e. edits (edit r e).0) es
@@ -68,7 +70,7 @@ edit_unnamed = refl
 
 -- 11 "the parent's number is 4,294,967,295", of a named parent and of a deleted winner, after 9 and
 -- before 8; one lower is taken
-pub edit_last : edits_on (spent (row (rev number_most 0x20) none (some Deleted) ∷ []))
+pub edit_last : edits_on (spent (row (rev number_most 0x20) None (Some Deleted) ∷ []))
     (under lot number_most 0x20 0x77 (Live 1) ∷ alone lot 0x77 (Live 1) ∷ alone lot 0x77 Deleted ∷ under lot number_most 0x21 0x77 (Live 1) ∷ [])
     ++ edits_on (after (on lot (number_most - 1) (0x20 ∷ []) Deleted ∷ [])) (alone lot 0x77 (Live 1) ∷ [])
     ≡ (11, 0) ∷ (11, 0) ∷ (9, 0) ∷ (9, 0) ∷ (0, number_most) ∷ []
@@ -82,7 +84,7 @@ edit_last = refl
 -- 10 "the new number and hash are known in the document" (3-05), before 8; the hash alone is nothing;
 -- then 6 and 8
 pub edit_known : edits_on lots (under lot 2 0x4c 0x05 (Live 1) ∷ under lot 2 0x4c 0x4c (Live 1) ∷ [])
-    ++ (edits_on (spent (row (rev 2 0x4c) none (some (Live 1)) ∷ row (rev 3 0x05) none (some (Live 1)) ∷ [])) (under lot 2 0x4c 0x05 (Live 1) ∷ under lot 2 0x4c 0x06 (Live 1) ∷ [])
+    ++ (edits_on (spent (row (rev 2 0x4c) None (Some (Live 1)) ∷ row (rev 3 0x05) None (Some (Live 1)) ∷ [])) (under lot 2 0x4c 0x05 (Live 1) ∷ under lot 2 0x4c 0x06 (Live 1) ∷ [])
     ++ edits_on (after (shelf documents_most)) (alone lot 0x77 (Live 1) ∷ []))
     ≡ (10, 0) ∷ (0, 3) ∷ (10, 0) ∷ (8, 0) ∷ (6, 0) ∷ []
 unfolding pieces join any how_many first_that find alter order_n order_bytes order_rev same_rev document_of tree_of

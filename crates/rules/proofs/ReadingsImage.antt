@@ -1,13 +1,13 @@
 -- Readings of the stored image and its faults. Assumes nothing.
 use mathlib.Core.Path.{◌≡◌, refl}
+use Rattle.rules.specs.declared.Fault.{Fault}
+use Rattle.std.specs.Prelude.{Result, Ok, Err}
 use mathlib.Core.List.{List, [], ◌∷◌, ◌++◌, map}
-use mathlib.Core.Option.{none, some}
+use Rattle.std.specs.Prelude.{None, Some}
 use Prim.Native.Nat.{ℕ, ◌+◌, ◌*◌}
 use lib.ListN.{take, replicate}
 use Rattle.rules.specs.declared.Content.TheVariants.{Deleted}
 use Rattle.rules.specs.declared.Fault.TheVariants.{BadParent}
-use Rattle.rules.specs.declared.Loaded.{Loaded}
-use Rattle.rules.specs.declared.Loaded.TheVariants as loaded
 use Rattle.rules.specs.Answer.{loaded_number}
 use Rattle.rules.specs.Bytes.{be, value_from, value, part, pieces, join, all_zero}
 use Rattle.rules.specs.Choice.{any, first_that}
@@ -27,7 +27,7 @@ pub image_bytes : image two ≡ two_image
 unfolding be join revisions_held head_bytes entry_bytes contents_bytes row_bytes body_bytes image two_image
 image_bytes = refl
 
-abbrev pub loaded_as : Loaded → ℕ × ℕ
+abbrev pub loaded_as : Result (Unit {0}) (Fault × ℕ) → ℕ × ℕ
 loaded_as a = ((loaded_number a).refusal, (loaded_number a).value)
 
 -- the number and place of a load, 0 and 0 if accepted
@@ -132,7 +132,7 @@ sequence_faults = refl
 -- three documents with these own sequences, and an update sequence
 abbrev pub three : ℕ → ℕ → ℕ → ℕ → Replica
 three a b c q =
-    let t : Tree = row (rev 1 0x20) none (some Deleted) ∷ [] in
+    let t : Tree = row (rev 1 0x20) None (Some Deleted) ∷ [] in
     holding q (doc (0x61 ∷ []) a t ∷ doc (0x62 ∷ []) b t ∷ doc (0x63 ∷ []) c t ∷ [])
 
 -- 24 "repeating an earlier one", whichever; own sequences may fall and may leave gaps
@@ -202,13 +202,13 @@ fault_order = refl
 
 -- "a known one may be all zeros" (the shortcut "Taking an all-zero parent hash as unknown"): 3-50 keeps
 -- its parent 2-00, and the image loads as the replica that it is the image of
-pub loads_back : load fresh two_image ≡ (loaded.Accepted, two)
+pub loads_back : load fresh two_image ≡ (Ok tt, two)
 unfolding value value_from part pieces any first_that order_n order_bytes order_rev same_rev head_of entry_of row_of entries_of
     rows_of deal sum_rows first_true all_zero bad_head bad_entry bad_entries bad_contents bad_seqs largest bad_sequence bad_row
     bad_rows in_each parent_of_row is_parent_of bad_link bad_links faults node_in documents_in replica_in load two_image
 loads_back = refl
 
-pub zero_parent : map (λ v. v.1.parent) (tree_of (load fresh two_image).1 (0x62 ∷ [])) ≡ none ∷ some (revision 2 (replicate 16 0)) ∷ []
+pub zero_parent : map (λ v. v.1.parent) (tree_of (load fresh two_image).1 (0x62 ∷ [])) ≡ None ∷ Some (revision 2 (replicate 16 0)) ∷ []
 unfolding value value_from part pieces any first_that find order_n order_bytes order_rev same_rev document_of tree_of head_of
     entry_of row_of entries_of rows_of deal sum_rows first_true all_zero bad_head bad_entry bad_entries bad_contents bad_seqs
     largest bad_sequence bad_row bad_rows in_each parent_of_row is_parent_of bad_link bad_links faults node_in documents_in
@@ -216,7 +216,7 @@ unfolding value value_from part pieces any first_that find order_n order_bytes o
 zero_parent = refl
 
 -- "A failed load leaves the former replica."
-pub failed_load : load risen (put ((124, 1 ∷ []) ∷ []) two_image) ≡ (loaded.Refused BadParent 0, risen)
+pub failed_load : load risen (put ((124, 1 ∷ []) ∷ []) two_image) ≡ (Err (BadParent, 0), risen)
 unfolding value value_from part pieces any first_that order_n order_bytes order_rev same_rev head_of entry_of row_of entries_of
     rows_of deal sum_rows first_true all_zero bad_head bad_entry bad_entries bad_contents bad_seqs largest bad_sequence bad_row
     bad_rows in_each parent_of_row is_parent_of bad_link bad_links faults node_in documents_in replica_in load two_image put
@@ -224,7 +224,7 @@ failed_load = refl
 
 -- "Numbers run from 1 to 4,294,967,295", "update sequence .. at most 4,294,967,295", a 64-bit label: the
 -- largest of each goes into its bytes and comes back
-pub utmost_back : load fresh (image utmost) ≡ (loaded.Accepted, utmost)
+pub utmost_back : load fresh (image utmost) ≡ (Ok tt, utmost)
 unfolding be value value_from part pieces join any first_that order_n order_bytes order_rev same_rev revisions_held head_bytes
     entry_bytes contents_bytes row_bytes body_bytes image head_of entry_of row_of entries_of rows_of deal sum_rows first_true
     all_zero bad_head bad_entry bad_entries bad_contents bad_seqs largest bad_sequence bad_row bad_rows in_each parent_of_row

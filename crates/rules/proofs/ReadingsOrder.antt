@@ -1,8 +1,8 @@
 -- Readings of the order of revisions. Assumes nothing.
 use mathlib.Core.Path.{◌≡◌, refl}
+use Rattle.std.specs.declared.cmp.Ordering.TheVariants.{Less, Equal, Greater}
 use mathlib.Core.List.{[], ◌∷◌, ◌++◌}
 use lib.ListN.{replicate}
-use Rattle.rules.specs.declared.Order.TheVariants.{Less, Equal, Greater}
 use Rattle.rules.specs.Order.{order_n, order_bytes, order_rev}
 use Rattle.rules.specs.Replica.{revision}
 use Rattle.rules.proofs.Readings.{rev}

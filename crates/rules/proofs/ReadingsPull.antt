@@ -1,7 +1,7 @@
 -- Readings of pull. Assumes nothing.
 use mathlib.Core.Path.{◌≡◌, refl}
 use mathlib.Core.List.{List, [], ◌∷◌, ◌++◌, map}
-use mathlib.Core.Option.{none, some}
+use Rattle.std.specs.Prelude.{None, Some}
 use Prim.Native.Nat.{ℕ}
 use lib.ListN.{replicate}
 use Rattle.rules.specs.declared.Content.TheVariants.{Live}
@@ -21,10 +21,10 @@ use Rattle.rules.proofs.Readings.{after, row, rev, doc, holding, lots, pair}
 
 -- the pair of "Shortcuts that look right": 3-[70,61] on one side, 3-[70] and 2-[61] apart on the other
 abbrev pub joined : Replica
-joined = holding 1 (doc lot 1 (row (rev 2 0x61) none none ∷ row (rev 3 0x70) (some (rev 2 0x61)) (some (Live 1)) ∷ []) ∷ [])
+joined = holding 1 (doc lot 1 (row (rev 2 0x61) None None ∷ row (rev 3 0x70) (Some (rev 2 0x61)) (Some (Live 1)) ∷ []) ∷ [])
 
 abbrev pub apart : Replica
-apart = holding 2 (doc lot 2 (row (rev 2 0x61) none (some (Live 2)) ∷ row (rev 3 0x70) none (some (Live 1)) ∷ []) ∷ [])
+apart = holding 2 (doc lot 2 (row (rev 2 0x61) None (Some (Live 2)) ∷ row (rev 3 0x70) None (Some (Live 1)) ∷ []) ∷ [])
 
 abbrev pub counts : ℕ → ℕ → ℕ → Counts
 counts c u r = record { changed = c; unchanged = u; refused = r }

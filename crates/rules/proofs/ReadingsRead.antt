@@ -1,13 +1,12 @@
 -- Readings of the reads. Assumes nothing.
 use mathlib.Core.Path.{◌≡◌, refl}
+use Rattle.rules.specs.declared.Change.{Change}
+use Rattle.rules.specs.declared.Refusal.{Refusal}
+use Rattle.std.specs.Prelude.{Option, None, Some, Result, Ok, Err}
 use mathlib.Core.Bool.{Bool, true, false}
 use mathlib.Core.List.{List, [], ◌∷◌, ◌++◌, map}
 use Prim.Native.Nat.{ℕ}
 use lib.ListN.{replicate}
-use Rattle.rules.specs.declared.Answered.{Answered}
-use Rattle.rules.specs.declared.Changes.{Changes}
-use Rattle.rules.specs.declared.Changes.TheVariants as changed
-use Rattle.rules.specs.declared.Next.TheVariants as next
 use Rattle.rules.specs.Answer.{answered_number, next_number, accepted}
 use Rattle.rules.specs.Bytes.{be, value_from, value, pieces, join}
 use Rattle.rules.specs.Choice.{first_that}
@@ -27,7 +26,7 @@ abbrev pub lent : ℕ → List ℕ
 lent n = replicate n 0xee
 
 -- an answer as its refusal's number, 0 if accepted, and what is answered, with the buffer as it is left
-abbrev pub read_as : Answered × List ℕ → ℕ × ℕ × List ℕ
+abbrev pub read_as : Result ℕ Refusal × List ℕ → ℕ × ℕ × List ℕ
 read_as o = ((answered_number o.0).refusal, (answered_number o.0).value, o.1)
 
 -- "among live leaves the highest number, then the highest hash; with no live leaf, the same among
@@ -115,10 +114,10 @@ abbrev pub truth : Bool → ℕ
 truth true = 1
 truth false = 0
 
-abbrev pub changes_as : Changes × List ℕ → List ℕ × List ℕ
-changes_as (changed.Next c, out) = (c.id_len ∷ c.seq.0 ∷ c.leaves ∷ truth c.deleted ∷ [], out)
-changes_as (changed.NoMore, out) = ([], out)
-changes_as (changed.Refused n, out) = (refusal_number n ∷ [], out)
+abbrev pub changes_as : Result (Option Change) Refusal × List ℕ → List ℕ × List ℕ
+changes_as (Ok (Some c), out) = (c.id_len ∷ c.seq.0 ∷ c.leaves ∷ truth c.deleted ∷ [], out)
+changes_as (Ok None, out) = ([], out)
+changes_as (Err n, out) = (refusal_number n ∷ [], out)
 
 abbrev pub changes_after : ℕ → List ℕ → List ℕ × List ℕ
 changes_after s out = changes_as (read_changes pair (record { 0 = s }) out)
@@ -139,5 +138,5 @@ unfolding first_that order_n order_bytes order_rev leaves order_leaf highest win
 changes_read = refl
 
 -- "the document with the lowest own sequence above s" is answered by "that sequence", and "no more" by 0
-pub next_read : next_number next.Nobody ∷ next_number (next.At 3 (record { 0 = 7 })) ∷ [] ≡ accepted 0 ∷ accepted 7 ∷ []
+pub next_read : next_number None ∷ next_number (Some (3, (record { 0 = 7 }))) ∷ [] ≡ accepted 0 ∷ accepted 7 ∷ []
 next_read = refl

@@ -1,7 +1,7 @@
 -- Readings of the refusals 1 to 8, of their numbers and of their order. Assumes nothing.
 use mathlib.Core.Path.{◌≡◌, refl}
 use mathlib.Core.List.{[], ◌∷◌, ◌++◌, map}
-use mathlib.Core.Option.{none, some}
+use Rattle.std.specs.Prelude.{None, Some}
 use Prim.Native.Nat.{ℕ, ◌+◌, ◌-◌, ◌*◌}
 use lib.ListN.{replicate}
 use Rattle.rules.specs.declared.Content.TheVariants.{Live, Deleted}
@@ -125,7 +125,7 @@ unfolding pieces join any how_many first_that find alter order_n order_bytes ord
 revisions_room = refl
 
 -- 8 "something would be added and the sequence is 4,294,967,295", after 4 to 7; a parent alone is an addition
-pub sequence_spent_lem : tries (spent (row (rev 1 0x20) none none ∷ row (rev 2 0x61) (some (rev 1 0x20)) (some (Live 2)) ∷ row (rev 3 0x70) none (some (Live 1)) ∷ []))
+pub sequence_spent_lem : tries (spent (row (rev 1 0x20) None None ∷ row (rev 2 0x61) (Some (rev 1 0x20)) (Some (Live 2)) ∷ row (rev 3 0x70) None (Some (Live 1)) ∷ []))
     (on lot 1 (0x30 ∷ []) (Live 1)
     ∷ on lot 3 (0x70 ∷ 0x61 ∷ []) (Live 1)
     ∷ on lot 3 (0x70 ∷ []) (Live 1)

@@ -1,9 +1,8 @@
 -- "Ordinary edit", and the refusals 9 to 11.
 use Rattle.std.specs.Prelude.{Bool, false, not, ◌&&◌, ◌||◌, List, [], ◌∷◌, ◌++◌, suc, eqb}
-use Rattle.std.proofs.Math.Option.{Option, none, some}
+use Rattle.std.specs.Prelude.{Result, Ok, Err}
+use Rattle.std.specs.Prelude.{Option, None, Some}
 use Rattle.rules.specs.declared.Content.{Content}
-use Rattle.rules.specs.declared.Edited.{Edited}
-use Rattle.rules.specs.declared.Edited.TheVariants.{Accepted, Refused}
 use Rattle.rules.specs.declared.Refusal.{Refusal}
 use Rattle.rules.specs.declared.Refusal.TheVariants.{BadId, NotAParent, LastNumber, AlreadyKnown}
 use Rattle.rules.specs.declared.Revision.{Revision}
@@ -26,8 +25,8 @@ pub record Edit : Type 0 where
 -- ---- the parent that an edit takes
 
 abbrev pub content_in : Option Node → Option Content
-content_in none = none
-content_in (some n) = n.content
+content_in None = None
+content_in (Some n) = n.content
 
 -- "that parent must be a leaf of the document, live or deleted": a leaf is what has a content
 unfoldable pub is_leaf : Tree → Revision → Bool
@@ -35,11 +34,11 @@ is_leaf t v = not (is_none (content_in (find order_rev v t)))
 
 -- "or its winner is a deletion, which becomes the parent"
 unfoldable pub deleted_winner : Tree → Option Revision
-deleted_winner t = maybe none (λ w. pick (is_deletion w.content) (some w.rev) none) (winner t)
+deleted_winner t = maybe None (λ w. pick (is_deletion w.content) (Some w.rev) None) (winner t)
 
 -- "Naming none .. its winner is a deletion, which becomes the parent"
 unfoldable pub parent_of : Replica → Edit → Option Revision
-parent_of r e = maybe (deleted_winner (tree_of r e.id)) some e.parent
+parent_of r e = maybe (deleted_winner (tree_of r e.id)) Some e.parent
 
 -- "Naming a parent, that parent must be a leaf of the document"; "Naming none, the content must be
 -- live, and either the document is absent .. or its winner is a deletion"
@@ -86,5 +85,5 @@ edit_refusals r e =
 
 -- "An accepted edit leaves what the path write of the new revision and its parent, if any, would
 -- leave, and answers the new number."
-unfoldable pub edit : Replica → Edit → Edited × Replica
-edit r e = settle Refused r (Accepted (new_number r e), added r (as_write r e)) (first_that (edit_refusals r e))
+unfoldable pub edit : Replica → Edit → Result RevNumber Refusal × Replica
+edit r e = settle Err r (Ok (new_number r e), added r (as_write r e)) (first_that (edit_refusals r e))

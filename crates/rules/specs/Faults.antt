@@ -1,10 +1,9 @@
 -- The faults 20 to 26 of an image with their places, and loading.
 use Rattle.std.specs.Prelude.{Bool, true, false, not, ◌&&◌, ◌||◌, List, [], ◌∷◌, ◌++◌, map, ℕ, suc, ◌+◌, ◌*◌, max, eqb, ltb, length}
-use Rattle.std.proofs.Math.Option.{Option, none, some}
+use Rattle.std.specs.Prelude.{Result, Ok, Err}
+use Rattle.std.specs.Prelude.{Option, None, Some}
 use Rattle.rules.specs.declared.Fault.{Fault}
 use Rattle.rules.specs.declared.Fault.TheVariants.{TooShort, BadEdition, BadHead, BadContents, BadSequence, BadRow, BadParent}
-use Rattle.rules.specs.declared.Loaded.{Loaded}
-use Rattle.rules.specs.declared.Loaded.TheVariants.{Accepted, Refused}
 use Rattle.rules.specs.declared.Revision.{Revision}
 use Rattle.rules.specs.Bytes.{all_zero}
 use Rattle.rules.specs.Choice.{pick, or_else, maybe, any, first_that}
@@ -16,8 +15,8 @@ use Rattle.rules.specs.Room.{documents_most, revisions_most, id_most}
 
 -- the place of the first that is true
 unfoldable pub first_true : ℕ → List Bool → Option ℕ
-first_true k [] = none
-first_true k (b ∷ bs) = pick b (some k) (first_true (suc k) bs)
+first_true k [] = None
+first_true k (b ∷ bs) = pick b (Some k) (first_true (suc k) bs)
 
 -- 22: "zero field not zero, d over 32, r over 512, total not by the formula or not the given length"
 unfoldable pub bad_head : List ℕ → Bool
@@ -30,8 +29,8 @@ bad_head s =
 
 -- "Ids strictly ascend": not above the id before it
 abbrev pub not_above : Option Id → Id → Bool
-not_above none i = false
-not_above (some j) i = not (is_less (order_bytes j i))
+not_above None i = false
+not_above (Some j) i = not (is_less (order_bytes j i))
 
 -- 23: an entry by itself, given where its first row must be and the id before it
 unfoldable pub bad_entry : ℕ → Option Id → Entry → Bool
@@ -45,7 +44,7 @@ bad_entry place before e =
 unfoldable pub bad_entries : ℕ → Option Id → List Entry → List Bool
 bad_entries place before [] = []
 bad_entries place before (e ∷ es) =
-    bad_entry place before e ∷ bad_entries (place + row_size * e.rows) (some e.id) es
+    bad_entry place before e ∷ bad_entries (place + row_size * e.rows) (Some e.id) es
 
 unfoldable pub sum_rows : List Entry → ℕ
 sum_rows [] = 0
@@ -56,8 +55,8 @@ unfoldable pub bad_contents : List ℕ → Option ℕ
 bad_contents s =
     let h = head_of s in
     let es = entries_of s in
-    or_else (first_true 0 (bad_entries (head_size + entry_size * h.documents) none es))
-    (pick (eqb (sum_rows es) h.revisions) none (some h.documents))
+    or_else (first_true 0 (bad_entries (head_size + entry_size * h.documents) None es))
+    (pick (eqb (sum_rows es) h.revisions) None (Some h.documents))
 
 -- 24: "own sequence 0 or repeated": each with those before it
 unfoldable pub bad_seqs : List ℕ → List Entry → List Bool
@@ -74,7 +73,7 @@ unfoldable pub bad_sequence : List ℕ → Option ℕ
 bad_sequence s =
     let es = entries_of s in
     or_else (first_true 0 (bad_seqs [] es))
-    (pick (eqb (head_of s).seq (largest es)) none (some (head_of s).documents))
+    (pick (eqb (head_of s).seq (largest es)) None (Some (head_of s).documents))
 
 -- 25: "row by itself": "kind, flag, zeros, number 0, parent at number 1, hash or label not zero"
 unfoldable pub bad_row : Row → Bool
@@ -89,12 +88,12 @@ bad_row w =
 
 -- "not above the row before it in its document"
 abbrev pub row_not_above : Option Revision → Revision → Bool
-row_not_above none v = false
-row_not_above (some u) v = not (is_less (order_rev u v))
+row_not_above None v = false
+row_not_above (Some u) v = not (is_less (order_rev u v))
 
 unfoldable pub bad_rows : Option Revision → List Row → List Bool
 bad_rows before [] = []
-bad_rows before (w ∷ ws) = (bad_row w || row_not_above before w.rev) ∷ bad_rows (some w.rev) ws
+bad_rows before (w ∷ ws) = (bad_row w || row_not_above before w.rev) ∷ bad_rows (Some w.rev) ws
 
 unfoldable pub in_each : (List Row → List Bool) → List (List Row) → List Bool
 in_each f [] = []
@@ -114,8 +113,8 @@ bad_links all = map (bad_link all) all
 
 -- a fault at a place, if there is one
 abbrev pub at : Fault → Option ℕ → Bool × (Fault × ℕ)
-at f none = (false, (f, 0))
-at f (some p) = (true, (f, p))
+at f None = (false, (f, 0))
+at f (Some p) = (true, (f, p))
 
 -- "Refusals, in order, each over the whole image"
 unfoldable pub faults : List ℕ → List (Bool × (Fault × ℕ))
@@ -126,16 +125,16 @@ faults s =
     ∷ (bad_head s, (BadHead, 0))
     ∷ at BadContents (bad_contents s)
     ∷ at BadSequence (bad_sequence s)
-    ∷ at BadRow (first_true 0 (in_each (bad_rows none) rs))
+    ∷ at BadRow (first_true 0 (in_each (bad_rows None) rs))
     ∷ at BadParent (first_true 0 (in_each bad_links rs))
     ∷ []
 
 -- ---- loading
 
 -- "An image loads exactly if it meets every rule." "A failed load leaves the former replica."
-abbrev pub load_as : Replica → List ℕ → Option (Fault × ℕ) → Loaded × Replica
-load_as former s none = (Accepted, replica_in s)
-load_as former s (some f) = (Refused f.0 f.1, former)
+abbrev pub load_as : Replica → List ℕ → Option (Fault × ℕ) → Result (Unit {0}) (Fault × ℕ) × Replica
+load_as former s None = (Ok tt, replica_in s)
+load_as former s (Some f) = (Err f, former)
 
-unfoldable pub load : Replica → List ℕ → Loaded × Replica
+unfoldable pub load : Replica → List ℕ → Result (Unit {0}) (Fault × ℕ) × Replica
 load former s = load_as former s (first_that (faults s))

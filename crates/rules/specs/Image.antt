@@ -1,7 +1,8 @@
 -- "The stored image", edition 1: a replica's image, and what an image without a fault holds.
 use Rattle.std.specs.Prelude.{List, [], ◌∷◌, ◌++◌, map, ℕ, pred, ◌+◌, ◌-◌, ◌*◌, eqb, length, take, drop, replicate}
-use Rattle.std.proofs.Math.Option.{Option, none, some}
-use Rattle.rules.specs.declared.Answered.{Answered}
+use Rattle.rules.specs.declared.Refusal.{Refusal}
+use Rattle.std.specs.Prelude.{Result}
+use Rattle.std.specs.Prelude.{Option, None, Some}
 use Rattle.rules.specs.declared.Content.{Content}
 use Rattle.rules.specs.declared.Content.TheVariants.{Live, Deleted}
 use Rattle.rules.specs.declared.Revision.{Revision}
@@ -42,23 +43,23 @@ contents_bytes place (d ∷ ds) = entry_bytes place d ++ contents_bytes (place +
 
 -- "kind (1: 0 has a child, 1 live, 2 deleted)"
 abbrev pub kind_of : Option Content → ℕ
-kind_of none = 0
-kind_of (some c) = content_kind c
+kind_of None = 0
+kind_of (Some c) = content_kind c
 
 -- "label (8, zero unless live)"
 abbrev pub label_of : Option Content → ℕ
-label_of none = 0
-label_of (some c) = content_label c
+label_of None = 0
+label_of (Some c) = content_label c
 
 -- "parent known (1: 0 or 1)"
 abbrev pub flag_of : Option Revision → ℕ
-flag_of none = 0
-flag_of (some p) = 1
+flag_of None = 0
+flag_of (Some p) = 1
 
 -- "parent hash (16, zeros if unknown; a known one may be all zeros)"
 abbrev pub parent_hash : Option Revision → Hash
-parent_hash none = replicate hash_size 0
-parent_hash (some p) = p.hash
+parent_hash None = replicate hash_size 0
+parent_hash (Some p) = p.hash
 
 -- "Row, 48 bytes": its fields in their order
 unfoldable pub row_bytes : Revision × Node → List ℕ
@@ -81,7 +82,7 @@ image r =
     ++ (contents_bytes (head_size + entry_size * d) r.documents ++ body_bytes r.documents)
 
 -- "changes and saving 14"
-unfoldable pub save : Replica → List ℕ → Answered × List ℕ
+unfoldable pub save : Replica → List ℕ → Result ℕ Refusal × List ℕ
 save r out = let bytes = image r in reads [] (length bytes) bytes out
 
 -- ---- the parts of an image
@@ -101,10 +102,10 @@ deal (e ∷ es) rs = take e.rows rs ∷ deal es (drop e.rows rs)
 
 -- a known parent is the row numbered one lower with the parent hash: "A parent's number is one lower."
 unfoldable pub parent_of_row : Row → Option Revision
-parent_of_row w = pick (eqb w.flag 0) none (some (revision (pred w.rev.number.0) w.parent))
+parent_of_row w = pick (eqb w.flag 0) None (Some (revision (pred w.rev.number.0) w.parent))
 
 abbrev pub content_of_kind : ℕ → ℕ → Option Content
-content_of_kind k label = pick (eqb k 0) none (some (pick (eqb k 1) (Live label) Deleted))
+content_of_kind k label = pick (eqb k 0) None (Some (pick (eqb k 1) (Live label) Deleted))
 
 unfoldable pub node_in : Row → Revision × Node
 node_in w = (w.rev, record { parent = parent_of_row w; content = content_of_kind w.kind w.label })

@@ -1,10 +1,11 @@
 -- "Pull".
 use Rattle.std.specs.Prelude.{List, [], ◌∷◌, ◌++◌, map, suc}
+use Rattle.rules.specs.declared.Refusal.{Refusal}
+use Rattle.rules.specs.declared.Outcome.{Outcome}
+use Rattle.std.specs.Prelude.{Result, Ok, Err}
 use Rattle.rules.specs.declared.Counts.{Counts}
 use Rattle.rules.specs.declared.Outcome.TheVariants.{Changed, Unchanged}
 use Rattle.rules.specs.declared.Seq.{Seq}
-use Rattle.rules.specs.declared.Written.{Written}
-use Rattle.rules.specs.declared.Written.TheVariants.{Accepted, Refused}
 use Rattle.rules.specs.Bytes.{join}
 use Rattle.rules.specs.Read.{LeafOf, leaves, path_of, documents_after}
 use Rattle.rules.specs.Replica.{Id, Tree, Document, Replica}
@@ -27,10 +28,10 @@ unfoldable pub offers : Seq → Replica → List Write
 offers s source = offers_in (documents_after s source.documents)
 
 -- "The answer has three counts: changed, unchanged, refused."
-unfoldable pub count : Written → Counts → Counts
-count (Accepted Changed) c = record { changed = suc c.changed; unchanged = c.unchanged; refused = c.refused }
-count (Accepted Unchanged) c = record { changed = c.changed; unchanged = suc c.unchanged; refused = c.refused }
-count (Refused n) c = record { changed = c.changed; unchanged = c.unchanged; refused = suc c.refused }
+unfoldable pub count : Result Outcome Refusal → Counts → Counts
+count (Ok Changed) c = record { changed = suc c.changed; unchanged = c.unchanged; refused = c.refused }
+count (Ok Unchanged) c = record { changed = c.changed; unchanged = suc c.unchanged; refused = c.refused }
+count (Err n) c = record { changed = c.changed; unchanged = c.unchanged; refused = suc c.refused }
 
 abbrev pub no_counts : Counts
 no_counts = record { changed = 0; unchanged = 0; refused = 0 }

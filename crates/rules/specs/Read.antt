@@ -1,15 +1,13 @@
 -- "Reading": winner, leaves, conflicts, path, missing, changes.
 use Rattle.std.specs.Prelude.{Bool, true, false, not, List, [], ◌∷◌, ◌++◌, map, ℕ, zero, suc, ◌/◌, ◌%◌, eqb, leb, ltb, length, take, drop}
-use Rattle.std.proofs.Math.Option.{Option, none, some}
-use Rattle.rules.specs.declared.Answered.{Answered}
-use Rattle.rules.specs.declared.Answered.TheVariants as answered
+use Rattle.std.specs.declared.cmp.Ordering.{Ordering}
+use Rattle.std.specs.Prelude.{Result, Ok, Err}
+use Rattle.std.specs.Prelude.{Option, None, Some}
 use Rattle.rules.specs.declared.Change.{Change}
-use Rattle.rules.specs.declared.Changes.{Changes}
-use Rattle.rules.specs.declared.Changes.TheVariants as changed
 use Rattle.rules.specs.declared.Content.{Content}
 use Rattle.rules.specs.declared.Content.TheVariants.{Live, Deleted}
 use Rattle.rules.specs.declared.Held.{Held}
-use Rattle.rules.specs.declared.Order.{Order}
+use Rattle.rules.specs.declared.Leaf.{Leaf}
 use Rattle.rules.specs.declared.Refusal.{Refusal}
 use Rattle.rules.specs.declared.Refusal.TheVariants.{BadId, NoDocument, NoRevision, ShortBuffer, BadAsked}
 use Rattle.rules.specs.declared.Revision.{Revision}
@@ -24,9 +22,8 @@ use Rattle.rules.specs.Write.{bad_id, is_none, parent_in}
 -- ---- leaves
 
 -- a leaf with its content
-pub record LeafOf : Type 0 where
-  pub rev : Revision
-  pub content : Content
+abbrev pub LeafOf : Type 0
+LeafOf = Leaf
 
 abbrev pub leaf_in : Revision × Node → List LeafOf
 leaf_in v = maybe [] (λ c. record { rev = v.0; content = c } ∷ []) v.1.content
@@ -52,16 +49,16 @@ rank (Live n) = 1
 rank Deleted = 0
 
 -- by rank, then "the highest number, then the highest hash"
-unfoldable pub order_leaf : LeafOf → LeafOf → Order
+unfoldable pub order_leaf : LeafOf → LeafOf → Ordering
 order_leaf a b = and_then (order_n (rank a.content) (rank b.content)) (order_rev a.rev b.rev)
 
 abbrev pub higher : LeafOf → Option LeafOf → LeafOf
-higher a none = a
-higher a (some b) = pick (is_less (order_leaf a b)) b a
+higher a None = a
+higher a (Some b) = pick (is_less (order_leaf a b)) b a
 
 unfoldable pub highest : List LeafOf → Option LeafOf
-highest [] = none
-highest (a ∷ more) = some (higher a (highest more))
+highest [] = None
+highest (a ∷ more) = Some (higher a (highest more))
 
 unfoldable pub winner : Tree → Option LeafOf
 winner t = highest (leaves t)
@@ -141,33 +138,33 @@ unfoldable pub short_buffer : List ℕ → List ℕ → Bool × Refusal
 short_buffer bytes out = (ltb (length out) (length bytes), ShortBuffer)
 
 abbrev pub lend : {A : Type 0} → (Refusal → A) → List ℕ → A → List ℕ → Option Refusal → A × List ℕ
-lend refused out answer bytes none = (answer, front bytes out)
-lend refused out answer bytes (some n) = (refused n, out)
+lend refused out answer bytes None = (answer, front bytes out)
+lend refused out answer bytes (Some n) = (refused n, out)
 
 -- a read that answers n and writes bytes, after these refusals and 14
-unfoldable pub reads : List (Bool × Refusal) → ℕ → List ℕ → List ℕ → Answered × List ℕ
+unfoldable pub reads : List (Bool × Refusal) → ℕ → List ℕ → List ℕ → Result ℕ Refusal × List ℕ
 reads refusals n bytes out =
-    lend answered.Refused out (answered.Count n) bytes (first_that (refusals ++ (short_buffer bytes out ∷ [])))
+    lend Err out (Ok n) bytes (first_that (refusals ++ (short_buffer bytes out ∷ [])))
 
 -- "Reads of a document check 1, 12, 13 (path only), 14"
 unfoldable pub document_refusals : Replica → Id → List (Bool × Refusal)
 document_refusals r i = (bad_id i, BadId) ∷ (is_none (document_of r i), NoDocument) ∷ []
 
-unfoldable pub read_winner : Replica → Id → List ℕ → Answered × List ℕ
+unfoldable pub read_winner : Replica → Id → List ℕ → Result ℕ Refusal × List ℕ
 read_winner r i out =
     let bytes = maybe [] leaf_bytes (winner (tree_of r i)) in reads (document_refusals r i) (length bytes) bytes out
 
-unfoldable pub read_leaves : Replica → Id → List ℕ → Answered × List ℕ
+unfoldable pub read_leaves : Replica → Id → List ℕ → Result ℕ Refusal × List ℕ
 read_leaves r i out =
     let ls = leaves (tree_of r i) in reads (document_refusals r i) (length ls) (join (map leaf_bytes ls)) out
 
-unfoldable pub read_path : Replica → Id → Revision → List ℕ → Answered × List ℕ
+unfoldable pub read_path : Replica → Id → Revision → List ℕ → Result ℕ Refusal × List ℕ
 read_path r i v out =
     let hs = path_of (tree_of r i) v in
     reads (document_refusals r i ++ ((is_none (find order_rev v (tree_of r i)), NoRevision) ∷ [])) (length hs) (join hs) out
 
 -- "missing revisions 1, 15, 14": "asked list not a multiple of 20 bytes"
-unfoldable pub read_missing : Replica → Id → List ℕ → List ℕ → Answered × List ℕ
+unfoldable pub read_missing : Replica → Id → List ℕ → List ℕ → Result ℕ Refusal × List ℕ
 read_missing r i asked out =
     let bytes = missing (tree_of r i) asked in
     reads ((bad_id i, BadId) ∷ (not (eqb (length asked % asked_size) 0), BadAsked) ∷ []) (length bytes) bytes out
@@ -182,15 +179,15 @@ change_of d = record {
 }
 
 abbrev pub first_of : {A : Type 0} → List A → Option A
-first_of [] = none
-first_of (a ∷ more) = some a
+first_of [] = None
+first_of (a ∷ more) = Some a
 
 -- "the document with the lowest own sequence above s: its id written out ..; or no more, nothing
 -- written"; "changes and saving 14"
-unfoldable pub read_changes : Replica → Seq → List ℕ → Changes × List ℕ
+unfoldable pub read_changes : Replica → Seq → List ℕ → Result (Option Change) Refusal × List ℕ
 read_changes r s out =
-    maybe (changed.NoMore, out)
-    (λ d. lend changed.Refused out (changed.Next (change_of d)) d.0 (first_that (short_buffer d.0 out ∷ [])))
+    maybe (Ok None, out)
+    (λ d. lend Err out (Ok (Some (change_of d))) d.0 (first_that (short_buffer d.0 out ∷ [])))
     (first_of (documents_after s r.documents))
 
 -- how many documents and revisions are held

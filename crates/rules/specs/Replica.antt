@@ -1,6 +1,6 @@
 -- "What a replica holds."
 use Rattle.std.specs.Prelude.{◌≡◌, List, [], ◌∷◌, ◌↔◌, ℕ, suc, ◌+◌, ◌≤◌, ◌<◌, max, length}
-use Rattle.std.proofs.Math.Option.{Option, none, some}
+use Rattle.std.specs.Prelude.{Option, None, Some}
 use Rattle.rules.specs.declared.Content.{Content}
 use Rattle.rules.specs.declared.Content.TheVariants.{Live, Deleted}
 use Rattle.rules.specs.declared.Revision.{Revision}
@@ -43,8 +43,8 @@ abbrev pub fresh : Replica
 fresh = record { seq = record { 0 = 0 }; documents = [] }
 
 abbrev pub tree_in : Option Document → Tree
-tree_in none = []
-tree_in (some d) = d.tree
+tree_in None = []
+tree_in (Some d) = d.tree
 
 unfoldable pub document_of : Replica → Id → Option Document
 document_of r i = find order_bytes i r.documents
@@ -56,13 +56,13 @@ tree_of r i = tree_in (document_of r i)
 -- ---- what is known of a revision
 
 abbrev pub Known : Tree → Revision → Type 0
-Known t v = (n : Node) × (find order_rev v t ≡ some n)
+Known t v = (n : Node) × (find order_rev v t ≡ Some n)
 
 abbrev pub HasParent : Tree → Revision → Revision → Type 0
-HasParent t v p = (n : Node) × (find order_rev v t ≡ some n) × (n.parent ≡ some p)
+HasParent t v p = (n : Node) × (find order_rev v t ≡ Some n) × (n.parent ≡ Some p)
 
 abbrev pub HasContent : Tree → Revision → Content → Type 0
-HasContent t v c = (n : Node) × (find order_rev v t ≡ some n) × (n.content ≡ some c)
+HasContent t v c = (n : Node) × (find order_rev v t ≡ Some n) × (n.content ≡ Some c)
 
 abbrev pub HasChild : Tree → Revision → Type 0
 HasChild t p = (v : Revision) × HasParent t v p
@@ -117,12 +117,12 @@ pub record IsDocument (r : Replica) (i : Id) (d : Document) : Type 0 where
   pub tree : IsTree d.tree
   pub seq_least : 1 ≤ d.seq.0
   -- no other document has this sequence
-  pub seq_own : (j : Id) (e : Document) → document_of r j ≡ some e → e.seq ≡ d.seq → j ≡ i
+  pub seq_own : (j : Id) (e : Document) → document_of r j ≡ Some e → e.seq ≡ d.seq → j ≡ i
 
 -- "Replicas are only what this tool's calls make": what each of them satisfies
 pub record IsReplica (r : Replica) : Type 0 where
   pub ascending : Ascending order_bytes r.documents
-  pub documents : (i : Id) (d : Document) → document_of r i ≡ some d → IsDocument r i d
+  pub documents : (i : Id) (d : Document) → document_of r i ≡ Some d → IsDocument r i d
   pub documents_at_most : length r.documents ≤ documents_most
   pub revisions_at_most : revisions_held r.documents ≤ revisions_most
   pub seq_largest : r.seq.0 ≡ largest_seq r.documents

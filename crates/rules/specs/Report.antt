@@ -1,8 +1,9 @@
 -- "The check program": what it prints for the bytes that it read.
 use Rattle.std.specs.Prelude.{List, [], ◌∷◌, ◌++◌, map, ℕ, zero, suc, ◌+◌, ◌/◌, ◌%◌, eqb, ltb, length, take}
+use Rattle.rules.specs.declared.Refusal.{Refusal}
+use Rattle.std.specs.Prelude.{Result}
 use Prim.Native.Char.{code}
 use Prim.Native.String.{String}
-use Rattle.rules.specs.declared.Answered.{Answered}
 use Rattle.rules.specs.declared.Fault.{Fault}
 use Rattle.rules.specs.declared.Revision.{Revision}
 use Rattle.rules.specs.declared.Seq.{Seq}
@@ -137,7 +138,7 @@ unfoldable pub report : List ℕ → List ℕ
 report s = maybe (replica_text (replica_in s)) refused_text (first_that (faults s))
 
 -- the report written to a lent buffer
-unfoldable pub read_report : List ℕ → List ℕ → Answered × List ℕ
+unfoldable pub read_report : List ℕ → List ℕ → Result ℕ Refusal × List ℕ
 read_report s out = let bytes = report s in reads [] (length bytes) bytes out
 
 -- "Input past 26,001 bytes is not read.": one more than the largest image

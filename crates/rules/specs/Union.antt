@@ -1,13 +1,14 @@
 -- Demand 3: the union "stated from what is given or held, never by running writes or pulls".
 use Rattle.std.specs.Prelude.{true, ◌≡◌, List, [], ◌∷◌, ◌↔◌, ◌⊎◌, ◌≤◌, length}
-use Rattle.std.proofs.Math.Option.{none, some}
+use Rattle.std.specs.declared.cmp.Ordering.TheVariants.{Less}
+use Rattle.rules.specs.declared.Refusal.{Refusal}
+use Rattle.rules.specs.declared.Outcome.{Outcome}
+use Rattle.std.specs.Prelude.{Result, Ok, Err}
+use Rattle.std.specs.Prelude.{None, Some}
 use Rattle.rules.specs.declared.Content.{Content}
-use Rattle.rules.specs.declared.Order.TheVariants.{Less}
 use Rattle.rules.specs.declared.Refusal.TheVariants.{SequenceSpent}
 use Rattle.rules.specs.declared.Revision.{Revision}
 use Rattle.rules.specs.declared.Seq.{Seq}
-use Rattle.rules.specs.declared.Written.{Written}
-use Rattle.rules.specs.declared.Written.TheVariants.{Accepted, Refused}
 use Rattle.rules.specs.Bytes.{Bytes}
 use Rattle.rules.specs.Choice.{first_that}
 use Rattle.rules.specs.Map.{Map}
@@ -34,8 +35,8 @@ Gives ws i v n = (w : Write) × In w ws × (w.id ≡ i) × In (v, n) (gives w)
 abbrev pub given : List Write → Things
 given ws = record {
   revision = λ i v. (n : Node) × Gives ws i v n;
-  parent = λ i v p. (n : Node) × Gives ws i v n × (n.parent ≡ some p);
-  content = λ i v c. (n : Node) × Gives ws i v n × (n.content ≡ some c);
+  parent = λ i v p. (n : Node) × Gives ws i v n × (n.parent ≡ Some p);
+  content = λ i v c. (n : Node) × Gives ws i v n × (n.content ≡ Some c);
 }
 
 -- what a replica holds
@@ -71,12 +72,12 @@ WinnerIn g i a =
 
 -- the replica holds exactly the union
 pub record IsUnion (r : Replica) (g : Things) : Type 1 where
-  pub documents : (i : Id) → ((d : Document) × (document_of r i ≡ some d)) ↔ ((v : Revision) × g.revision i v)
+  pub documents : (i : Id) → ((d : Document) × (document_of r i ≡ Some d)) ↔ ((v : Revision) × g.revision i v)
   pub revisions : (i : Id) (v : Revision) → Known (tree_of r i) v ↔ g.revision i v
   pub parents : (i : Id) (v p : Revision) → HasParent (tree_of r i) v p ↔ g.parent i v p
   pub leaves : (i : Id) (v : Revision) → Leaf (tree_of r i) v ↔ LeafIn g i v
   pub contents : (i : Id) (v : Revision) (c : Content) → HasContent (tree_of r i) v c ↔ ContentIn g i v c
-  pub winners : (i : Id) (a : LeafOf) → (winner (tree_of r i) ≡ some a) ↔ WinnerIn g i a
+  pub winners : (i : Id) (a : LeafOf) → (winner (tree_of r i) ≡ Some a) ↔ WinnerIn g i a
 
 -- a replica's documents without their sequences
 unfoldable pub trees : Map Id Document → Map Id Tree
@@ -99,7 +100,7 @@ pub record IsWrite (w : Write) : Type 0 where
 -- "A write is well-formed if 1 to 3 below don't refuse it."
 pub record WellFormed (w : Write) : Type 0 where
   pub write : IsWrite w
-  pub form : first_that (form_refusals w) ≡ none
+  pub form : first_that (form_refusals w) ≡ None
 
 -- "no two of which give one revision of a document two different parents, or give one newest
 -- revision two different contents"
@@ -128,9 +129,9 @@ unfoldable pub write_all : List Write → Replica → Replica
 write_all [] r = r
 write_all (w ∷ ws) r = write_all ws (write r w).1
 
-abbrev pub IsAccepted : Written → Type 0
-IsAccepted (Accepted o) = Unit {0}
-IsAccepted (Refused n) = ⊥
+abbrev pub IsAccepted : Result Outcome Refusal → Type 0
+IsAccepted (Ok o) = Unit {0}
+IsAccepted (Err n) = ⊥
 
 -- none of the writes is refused
 abbrev pub AllAccepted : List Write → Replica → Type 0
@@ -140,7 +141,7 @@ AllAccepted (w ∷ ws) r = IsAccepted (write r w).0 × AllAccepted ws (write r w
 -- "neither runs out of sequence": none of the writes is answered 8
 abbrev pub SeqSuffices : List Write → Replica → Type 0
 SeqSuffices [] r = Unit {0}
-SeqSuffices (w ∷ ws) r = ((write r w).0 ≡ Refused SequenceSpent → ⊥) × SeqSuffices ws (write r w).1
+SeqSuffices (w ∷ ws) r = ((write r w).0 ≡ Err SequenceSpent → ⊥) × SeqSuffices ws (write r w).1
 
 -- "pulling all of one into the other"
 abbrev pub all_from : Seq

@@ -1,6 +1,8 @@
 -- "Writing a path", and the refusals 1 to 8.
 use Rattle.std.specs.Prelude.{Bool, true, false, not, ◌&&◌, ◌||◌, List, [], ◌∷◌, ◌++◌, ℕ, suc, pred, ◌+◌, ◌/◌, ◌%◌, eqb, leb, ltb, length}
-use Rattle.std.proofs.Math.Option.{Option, none, some}
+use Rattle.rules.specs.declared.Outcome.{Outcome}
+use Rattle.std.specs.Prelude.{Result, Ok, Err}
+use Rattle.std.specs.Prelude.{Option, None, Some}
 use Rattle.rules.specs.declared.Content.{Content}
 use Rattle.rules.specs.declared.Content.TheVariants.{Live, Deleted}
 use Rattle.rules.specs.declared.Outcome.TheVariants.{Changed, Unchanged}
@@ -9,8 +11,6 @@ use Rattle.rules.specs.declared.Refusal.TheVariants.{BadId, BadPath, LowNumber, 
 use Rattle.rules.specs.declared.Revision.{Revision}
 use Rattle.rules.specs.declared.RevNumber.{RevNumber}
 use Rattle.rules.specs.declared.Seq.{Seq}
-use Rattle.rules.specs.declared.Written.{Written}
-use Rattle.rules.specs.declared.Written.TheVariants.{Accepted, Refused}
 use Rattle.rules.specs.Bytes.{pieces}
 use Rattle.rules.specs.Choice.{pick, or_else, maybe, any, how_many, first_that}
 use Rattle.rules.specs.Map.{find, alter}
@@ -33,31 +33,31 @@ hashes w = pieces (length w.path / hash_size) hash_size w.path
 
 -- "The k-th hash after the newest has the number less k."
 abbrev pub newest_of : ℕ → List Hash → Option Revision
-newest_of n [] = none
-newest_of n (h ∷ hs) = some (revision n h)
+newest_of n [] = None
+newest_of n (h ∷ hs) = Some (revision n h)
 
 -- "Each hash is the parent of the one before it." Only the newest is given a content.
 unfoldable pub along : ℕ → List Hash → Option Content → List (Revision × Node)
 along n [] c = []
 along n (h ∷ hs) c =
-    (revision n h, record { parent = newest_of (pred n) hs; content = c }) ∷ along (pred n) hs none
+    (revision n h, record { parent = newest_of (pred n) hs; content = c }) ∷ along (pred n) hs None
 
 -- the revisions that a write gives, newest first, each with the parent and the content given for it
 unfoldable pub gives : Write → List (Revision × Node)
-gives w = along w.number.0 (hashes w) (some w.content)
+gives w = along w.number.0 (hashes w) (Some w.content)
 
 -- ---- adding it
 
 -- of a known revision: the newest keeps the content that it has or lacks, and an older one of the
 -- path has a child now
 abbrev pub keeps : Option Content → Option Content → Option Content
-keeps none held = none
-keeps (some c) held = held
+keeps None held = None
+keeps (Some c) held = held
 
 -- what is known of a revision once `given` is
 abbrev pub learn : Node → Option Node → Node
-learn given none = given
-learn given (some n) =
+learn given None = given
+learn given (Some n) =
     record { parent = or_else n.parent given.parent; content = keeps given.content n.content }
 
 unfoldable pub add_all : List (Revision × Node) → Tree → Tree
@@ -78,20 +78,20 @@ added r w = record {
 -- ---- what is new
 
 abbrev pub is_none : {A : Type 0} → Option A → Bool
-is_none none = true
-is_none (some a) = false
+is_none None = true
+is_none (Some a) = false
 
 unfoldable pub is_new : Tree → Revision × Node → Bool
 is_new t g = is_none (find order_rev g.0 t)
 
 -- a parent is given, and none is known
 abbrev pub lacks_parent : Option Revision → Option Revision → Bool
-lacks_parent none held = false
-lacks_parent (some p) held = is_none held
+lacks_parent None held = false
+lacks_parent (Some p) held = is_none held
 
 abbrev pub parent_in : Option Node → Option Revision
-parent_in none = none
-parent_in (some n) = n.parent
+parent_in None = None
+parent_in (Some n) = n.parent
 
 -- also where the revision itself is new
 unfoldable pub is_new_parent : Tree → Revision × Node → Bool
@@ -129,9 +129,9 @@ low_number w = ltb w.number.0 (length (hashes w))
 
 -- two that are both there and differ
 abbrev pub differ : {A : Type 0} → (A → A → Bool) → Option A → Option A → Bool
-differ same none b = false
-differ same (some a) none = false
-differ same (some a) (some b) = not (same a b)
+differ same None b = false
+differ same (Some a) None = false
+differ same (Some a) (Some b) = not (same a b)
 
 -- 4: "a revision of the path has a known parent other than the one the path gives it (the oldest is
 -- given none, so never counts)"
@@ -181,9 +181,9 @@ write_refusals r w =
 
 -- the answer, and the replica that is left
 abbrev pub settle : {A : Type 0} → (Refusal → A) → Replica → A × Replica → Option Refusal → A × Replica
-settle refused r accepted none = accepted
-settle refused r accepted (some n) = (refused n, r)
+settle refused r accepted None = accepted
+settle refused r accepted (Some n) = (refused n, r)
 
-unfoldable pub write : Replica → Write → Written × Replica
+unfoldable pub write : Replica → Write → Result Outcome Refusal × Replica
 write r w =
-    settle Refused r (pick (adds r w) (Accepted Changed, added r w) (Accepted Unchanged, r)) (first_that (write_refusals r w))
+    settle Err r (pick (adds r w) (Ok Changed, added r w) (Ok Unchanged, r)) (first_that (write_refusals r w))

@@ -42,11 +42,11 @@ pub enum Content {
     Deleted,
 }
 
+// A leaf: a revision with its content.
 #[derive(Clone, Copy)]
-pub enum Order {
-    Less,
-    Equal,
-    Greater,
+pub struct Leaf {
+    pub rev: Revision,
+    pub content: Content,
 }
 
 // Why a call was refused. `refusal_number` in specs/Refusal.antt gives each its number.
@@ -92,27 +92,6 @@ pub enum Outcome {
     Unchanged,
 }
 
-// The answer of a path write: accepted with what happened, or refused.
-#[derive(Clone, Copy)]
-pub enum Written {
-    Accepted(Outcome),
-    Refused(Refusal),
-}
-
-// The answer of an edit: the new revision's number, or refused.
-#[derive(Clone, Copy)]
-pub enum Edited {
-    Accepted(RevNumber),
-    Refused(Refusal),
-}
-
-// The answer of a read: a count, or refused.
-#[derive(Clone, Copy)]
-pub enum Answered {
-    Count(usize),
-    Refused(Refusal),
-}
-
 // A document that changed: its id's length, its own sequence, its leaves, and whether its winner is
 // a deletion.
 #[derive(Clone, Copy)]
@@ -121,28 +100,6 @@ pub struct Change {
     pub seq: Seq,
     pub leaves: usize,
     pub deleted: bool,
-}
-
-// The answer to changes after a sequence.
-#[derive(Clone, Copy)]
-pub enum Changes {
-    Next(Change),
-    NoMore,
-    Refused(Refusal),
-}
-
-// Which document changes comes to next: its place among the documents and its own sequence, or none.
-#[derive(Clone, Copy)]
-pub enum Next {
-    Nobody,
-    At(usize, Seq),
-}
-
-// The answer of a load: refused with the fault and its place.
-#[derive(Clone, Copy)]
-pub enum Loaded {
-    Accepted,
-    Refused(Fault, usize),
 }
 
 // The offers of a pull by what became of them.

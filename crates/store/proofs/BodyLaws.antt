@@ -1,5 +1,6 @@
 -- A document's rows are its tree. Assumes nothing.
 use mathlib.Core.Path.{◌≡◌, refl, sym, ap, ◌∙◌}
+use Rattle.std.specs.Prelude.{Result, Ok, Err}
 use Prim.Native.Nat.{ℕ, zero, suc, ◌+◌, ◌*◌, ◌<◌, ◌≤◌, ◌-◌}
 use native.Mathlib.Nat.{not-suc-le-zero, le_of_suc-le-suc}
 use native.Mathlib.Omega.{arith}
@@ -14,8 +15,6 @@ use Rattle.rules.specs.Replica.{Id, Node, Document, Replica, tree_of, document_o
 use Rattle.rules.specs.Room.{documents_most, revisions_most}
 use Rattle.rules.proofs.ByteLaws.{length-join, pieces_join, join_append}
 use Rattle.tree.specs.declared.table.Body.{Body}
-use Rattle.tree.specs.declared.table.Found.{Found}
-use Rattle.tree.specs.declared.table.Found.TheVariants.{At, Gap}
 use Rattle.tree.specs.Rows.{stored_row, node_held, FitsRow}
 use Rattle.tree.specs.Table.{body, tree_at}
 use Rattle.store.specs.Storage.{rows_room, rows_place, store_size, filled, rows_in, stored_rows, stored, replica_of, All, FitsDocument, Storable, Laid}
@@ -73,7 +72,7 @@ body_shows s d b h =
       tree = rw (h.base, h.rows) (ap (tree_at (row_place (first_row (documents_of s) d)) (length (document_at (documents_of s) d).1.tree)) l.same ∙ body_stored r d l.fits h.document.within);
     }
 
-pub found_body : (s : List ℕ) (i : Id) (d : ℕ) (b : Body) → place_of_id 0 i (documents_of s) ≡ At d → IsBody s d b → IsBodyOf s i b
+pub found_body : (s : List ℕ) (i : Id) (d : ℕ) (b : Body) → place_of_id 0 i (documents_of s) ≡ Ok d → IsBody s d b → IsBodyOf s i b
 unfolding tree_of document_of
 found_body s i d b e h =
     let w = body_shows s d b h in
@@ -82,7 +81,7 @@ found_body s i d b e h =
     let n = h.rows in
     record { is = rw e (λ j. record { base = p j; rows = n j }); shows = record { within = w.within; tree = w.tree ∙ rw f.found } }
 
-pub absent_body : (s : List ℕ) (i : Id) (d : ℕ) → Laid s → place_of_id 0 i (documents_of s) ≡ Gap d → IsBodyOf s i (body rows_place 0)
+pub absent_body : (s : List ℕ) (i : Id) (d : ℕ) → Laid s → place_of_id 0 i (documents_of s) ≡ Err d → IsBodyOf s i (body rows_place 0)
 unfolding tree_of document_of tree_at pieces
 absent_body s i d l e =
     let q = standing s l in
@@ -91,26 +90,26 @@ absent_body s i d l e =
 
 -- ---- the document that was looked for
 
-pub body_is : (s : List ℕ) (d : ℕ) (b : Body) → IsBody s d b → b ≡ body_at (documents_of s) (At d)
+pub body_is : (s : List ℕ) (d : ℕ) (b : Body) → IsBody s d b → b ≡ body_at (documents_of s) (Ok d)
 body_is s d b h = λ i. body (h.base i) (h.rows i)
 
-pub is_body : (s : List ℕ) (d : ℕ) (b : Body) → HasDocument s d → b ≡ body_at (documents_of s) (At d) → IsBody s d b
+pub is_body : (s : List ℕ) (d : ℕ) (b : Body) → HasDocument s d → b ≡ body_at (documents_of s) (Ok d) → IsBody s d b
 is_body s d b h e = record { document = h; base = ap (λ (x : Body). x.base) e; rows = ap (λ (x : Body). x.rows) e }
 
 module _ {s : List ℕ} (i : Id) (laid : Laid s) where
-  pub looked : {f : Found} → place_of_id 0 i (documents_of s) ≡ f → Looked s f
+  pub looked : {f : Result ℕ ℕ} → place_of_id 0 i (documents_of s) ≡ f → Looked s f
   looked {f} = go f
     where
-      go : (g : Found) → place_of_id 0 i (documents_of s) ≡ g → Looked s g
-      go (At d) e = record { laid = laid; within = (id_found d i (documents_of s) e).within }
-      go (Gap d) e = laid
+      go : (g : Result ℕ ℕ) → place_of_id 0 i (documents_of s) ≡ g → Looked s g
+      go (Ok d) e = record { laid = laid; within = (id_found d i (documents_of s) e).within }
+      go (Err d) e = laid
 
-  pub place_body : {f : Found} {b : Body} → place_of_id 0 i (documents_of s) ≡ f → b ≡ body_at (documents_of s) f → IsBodyOf s i b
+  pub place_body : {f : Result ℕ ℕ} {b : Body} → place_of_id 0 i (documents_of s) ≡ f → b ≡ body_at (documents_of s) f → IsBodyOf s i b
   place_body {f} {b} = go f
     where
-      go : (g : Found) → place_of_id 0 i (documents_of s) ≡ g → b ≡ body_at (documents_of s) g → IsBodyOf s i b
-      go (At d) e h = found_body s i d b e (is_body s d b (looked e) h)
-      go (Gap d) e h = rw h (absent_body s i d laid e)
+      go : (g : Result ℕ ℕ) → place_of_id 0 i (documents_of s) ≡ g → b ≡ body_at (documents_of s) g → IsBodyOf s i b
+      go (Ok d) e h = found_body s i d b e (is_body s d b (looked e) h)
+      go (Err d) e h = rw h (absent_body s i d laid e)
 
 -- ---- where a document's rows stand among the others, in numbers
 

@@ -1,12 +1,12 @@
 -- A replica can be laid out. Assumes nothing.
 use mathlib.Core.Path.{◌≡◌, refl, sym, ap, ◌∙◌}
-use mathlib.Core.Option.{Option, none, some}
+use Rattle.std.specs.declared.cmp.Ordering.TheVariants.{Less, Equal, Greater}
+use Rattle.std.specs.declared.cmp.Ordering.{Ordering}
+use Rattle.std.specs.Prelude.{Option, None, Some}
 use Prim.Native.Nat.{ℕ, pred, ◌≤◌}
 use native.Mathlib.Omega.{arith}
 use mathlib.Core.List.{List, [], ◌∷◌}
 use Rattle.rules.specs.declared.Content.{Content}
-use Rattle.rules.specs.declared.Order.{Order}
-use Rattle.rules.specs.declared.Order.TheVariants.{Less, Equal, Greater}
 use Rattle.rules.specs.declared.Revision.{Revision}
 use Rattle.rules.specs.Map.{Map, find, Below, Ascending}
 use Rattle.rules.specs.Order.{order_rev}
@@ -23,15 +23,15 @@ module _ {K A : Type 0} (O : TotalOrder K) where
   below_trans j k [] e b = tt
   below_trans j k (x ∷ xs) e b = O.trans j k x.0 e b
 
-  find_rest : (x : K × A) (xs : Map K A) (k : K) (a : A) → Below O.cmp x.0 xs → find O.cmp k xs ≡ some a → find O.cmp k (x ∷ xs) ≡ some a
+  find_rest : (x : K × A) (xs : Map K A) (k : K) (a : A) → Below O.cmp x.0 xs → find O.cmp k xs ≡ Some a → find O.cmp k (x ∷ xs) ≡ Some a
   find_rest x xs k a b e = go (O.cmp k x.0) refl
     where
-      go : (o : Order) → O.cmp k x.0 ≡ o → find O.cmp k (x ∷ xs) ≡ some a
+      go : (o : Ordering) → O.cmp k x.0 ≡ o → find O.cmp k (x ∷ xs) ≡ Some a
       go Less p = absurd (none≢some (sym (find_below O k xs (below_trans k x.0 xs p b)) ∙ e))
       go Equal p = absurd (none≢some (sym (find_below O k xs (rw (O.same k x.0 p) b)) ∙ e))
       go Greater p = find_gt O k x xs p ∙ e
 
-  pub all_found : (P : K × A → Type 0) (xs : Map K A) → Ascending O.cmp xs → ((k : K) (a : A) → find O.cmp k xs ≡ some a → P (k, a)) → All P xs
+  pub all_found : (P : K × A → Type 0) (xs : Map K A) → Ascending O.cmp xs → ((k : K) (a : A) → find O.cmp k xs ≡ Some a → P (k, a)) → All P xs
   all_found P [] s f = tt
   all_found P (x ∷ xs) s f =
       (f x.0 x.1 (find_eq O x.0 x xs (O.self x.0)), all_found P xs s.1 (λ k a e. f k a (find_rest x xs k a s.0 e)))
@@ -44,15 +44,15 @@ tree_fits t h = all_found rev_order FitsRow t h.ascending (λ v n e. record {
   content = content v n e n.content refl;
 })
   where
-    parent : (v : Revision) (n : Node) → find order_rev v t ≡ some n → (p : Option Revision) → n.parent ≡ p → FitsParent v p
-    parent v n e none q = tt
-    parent v n e (some p) q =
+    parent : (v : Revision) (n : Node) → find order_rev v t ≡ Some n → (p : Option Revision) → n.parent ≡ p → FitsParent v p
+    parent v n e None q = tt
+    parent v n e (Some p) q =
         let k = h.parents v p (n, e, q) in
         (ap pred (h.lower v p (n, e, q)), (h.revisions p k).size)
 
-    content : (v : Revision) (n : Node) → find order_rev v t ≡ some n → (c : Option Content) → n.content ≡ c → FitsContent c
-    content v n e none q = tt
-    content v n e (some c) q = h.contents v c (n, e, q)
+    content : (v : Revision) (n : Node) → find order_rev v t ≡ Some n → (c : Option Content) → n.content ≡ c → FitsContent c
+    content v n e None q = tt
+    content v n e (Some c) q = h.contents v c (n, e, q)
 
 -- no own sequence is above the largest
 seqs_most : (ds : Map Id Document) (m : ℕ) → largest_seq ds ≤ m → All (λ (d : Id × Document). d.1.seq.0 ≤ m) ds

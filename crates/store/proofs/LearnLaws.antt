@@ -1,22 +1,23 @@
 -- What is known of a revision once a row is learnt. Assumes nothing.
 use mathlib.Core.Path.{◌≡◌, refl, sym, ap, ◌∙◌}
+use Rattle.rules.specs.declared.Content.{Content}
+use Rattle.std.specs.Prelude.{Option, Result, Ok, Err}
 use mathlib.Core.Bool.{true, false}
-use mathlib.Core.Option.{some}
+use Rattle.std.specs.Option.{option_or, option_and}
+use Rattle.std.specs.Prelude.{None, Some}
 use Prim.Native.Nat.{ℕ, pred, ◌+◌, ◌<◌}
 use native.Mathlib.Omega.{arith}
 use mathlib.Core.List.{List}
 use lib.ListN.{get_or, set, length-set}
 use Rattle.rules.specs.declared.Revision.{Revision}
+use Rattle.rules.specs.Choice.{or_else}
 use Rattle.rules.specs.Map.{alter}
 use Rattle.rules.specs.Order.{order_rev}
-use Rattle.rules.specs.Replica.{revision, Node, Tree}
+use Rattle.rules.specs.Replica.{Hash, revision, Node, Tree}
 use Rattle.rules.specs.Write.{keeps, learn}
 use Rattle.tree.specs.declared.table.Body.{Body}
-use Rattle.tree.specs.declared.row.Kind.{Kind}
 use Rattle.tree.specs.declared.row.Row.{Row}
-use Rattle.tree.specs.declared.table.Found.{Found}
-use Rattle.tree.specs.declared.table.Found.TheVariants.{At, Gap}
-use Rattle.tree.specs.Rows.{content_of, parent_of, meaning, row_at, RowPut}
+use Rattle.tree.specs.Rows.{parent_of, meaning, row_at, RowPut}
 use Rattle.tree.specs.Table.{tree_in, row_start, place_of, insert_at, Searchable}
 use Rattle.tree.proofs.RowLaws.{row_at_means}
 use Rattle.tree.proofs.TableLaws.{no_row, tree_row}
@@ -30,16 +31,19 @@ use Rattle.store.proofs.RowChangeLaws.{set_holds, body_after, tree_same}
 
 -- ---- merging two rows of one revision
 
-module _ (held given : Row) (k : Kind) (e : held.rev ≡ given.rev) (c : content_of k ≡ keeps (content_of given.kind) (content_of held.kind)) where
-  pub merged_known : held.known ≡ true
-      → meaning (record { rev = held.rev; known = true; parent = held.parent; kind = k }) ≡ (given.rev, learn (meaning given).1 (some (meaning held).1))
-  unfolding meaning
-  merged_known n = rw n (λ i. (e i, record { parent = some (revision (pred held.rev.number.0) held.parent); content = c i }))
+pub merged_means : (held given : Row) → held.rev ≡ given.rev
+    → meaning (record { rev = held.rev; parent = option_or held.parent given.parent; content = option_and given.content held.content })
+    ≡ (given.rev, learn (meaning given).1 (Some (meaning held).1))
+unfolding meaning
+merged_means held given e = λ i. (e i, record { parent = parents held.parent given.parent i; content = contents given.content held.content i })
+  where
+    parents : (h g : Option Hash) → parent_of held.rev (option_or h g) ≡ or_else (parent_of held.rev h) (parent_of given.rev g)
+    parents None g = ap (λ (v : Revision). parent_of v g) e
+    parents (Some h) g = refl
 
-  pub merged_unknown : held.known ≡ false
-      → meaning (record { rev = held.rev; known = given.known; parent = given.parent; kind = k }) ≡ (given.rev, learn (meaning given).1 (some (meaning held).1))
-  unfolding meaning
-  merged_unknown n = rw n (λ i. (e i, record { parent = parent_of (e i) given.known given.parent; content = c i }))
+    contents : (g h : Option Content) → option_and g h ≡ keeps g h
+    contents None h = refl
+    contents (Some c) h = refl
 
 -- ---- the row that is found, or the gap
 
@@ -56,7 +60,7 @@ module _ (s : List ℕ) (d : ℕ) (b : Body) (row : Row) (h : CanLearn s d b (me
   pub searchable : Searchable b s
   searchable = record { within = shows.within; ascending = rw shows.tree h.ascending }
 
-  module _ (i : ℕ) (found : Found) (p : found ≡ place_of 0 v (tree_in b s)) (q : found ≡ At i) where
+  module _ (i : ℕ) (found : Result ℕ ℕ) (p : found ≡ place_of 0 v (tree_in b s)) (q : found ≡ Ok i) where
     is : Is i v t
     is = place_at i v t (rw shows.tree at (sym p ∙ q))
 
@@ -72,19 +76,19 @@ module _ (s : List ℕ) (d : ℕ) (b : Body) (row : Row) (h : CanLearn s d b (me
     unfolding meaning
     held_same = ap (λ (x : Revision × Node). x.0) held_means ∙ is.is
 
-    pub learnt_at : (s₁ : List ℕ) (at : ℕ) (x : Row) → at ≡ row_start b i → meaning x ≡ (v, learn (meaning row).1 (some (meaning (row_at (row_start b i) s)).1))
+    pub learnt_at : (s₁ : List ℕ) (at : ℕ) (x : Row) → at ≡ row_start b i → meaning x ≡ (v, learn (meaning row).1 (Some (meaning (row_at (row_start b i) s)).1))
         → RowPut s at x s₁ → Learnt s d (meaning row) b s₁
     unfolding meaning
     learnt_at s₁ at x e m put =
         let y = meaning x in
         let f : Tree → Tree = λ u. set u i y in
-        let n : y ≡ (v, learn (meaning row).1 (some (get_or t i no_row).1)) = m ∙ ap (λ (z : Revision × Node). (v, learn (meaning row).1 (some z.1))) held_means in
+        let n : y ≡ (v, learn (meaning row).1 (Some (get_or t i no_row).1)) = m ∙ ap (λ (z : Revision × Node). (v, learn (meaning row).1 (Some z.1))) held_means in
         let a : f t ≡ alter order_rev v (learn (meaning row).1) t = rw n (sym (is.altered (learn (meaning row).1))) in
         let w = tree_same (replica_of s) d f (alter order_rev v (learn (meaning row).1)) a in
         let k = set_holds s s₁ d b i at y h.body found_within put.fits e put.is in
         record { holds = rw w at k; body = body_after s s₁ d b b f h.body k refl (h.body.rows ∙ sym (length-set t i y)) }
 
-  module _ (i : ℕ) (found : Found) (p : found ≡ place_of 0 v (tree_in b s)) (q : found ≡ Gap i) where
+  module _ (i : ℕ) (found : Result ℕ ℕ) (p : found ≡ place_of 0 v (tree_in b s)) (q : found ≡ Err i) where
     is_not : IsNot i v t
     is_not = place_gap i v t (rw shows.tree at (sym p ∙ q))
 

@@ -1,7 +1,7 @@
 -- What a change of the buffer does to the replica in it. A path write is made of these, so they pass
 -- through states that aren't replicas yet.
 use Rattle.std.specs.Prelude.{◌≡◌, List, [], ◌∷◌, ℕ, zero, suc, ◌≤◌, ◌<◌, length}
-use Rattle.std.proofs.Math.Option.{none}
+use Rattle.std.specs.Prelude.{None}
 use Rattle.rules.specs.declared.Revision.{Revision}
 use Rattle.rules.specs.declared.Seq.{Seq}
 use Rattle.rules.specs.Map.{find, alter, Ascending}
@@ -68,7 +68,7 @@ pub record CanInsertRow (s : List ℕ) (d : ℕ) (b : Body) (i : ℕ) : Type 0 w
 pub record CanLearn (s : List ℕ) (d : ℕ) (b : Body) (v : Revision × Node) : Type 0 where
   pub body : IsBody s d b
   pub ascending : Ascending order_rev (document_at (documents_of s) d).1.tree
-  pub room : find order_rev v.0 (document_at (documents_of s) d).1.tree ≡ none → revisions_held (documents_of s) < revisions_most
+  pub room : find order_rev v.0 (document_at (documents_of s) d).1.tree ≡ None → revisions_held (documents_of s) < revisions_most
 
 -- document d knows what v gives, and its rows stand at b now
 pub record Learnt (s : List ℕ) (d : ℕ) (v : Revision × Node) (b : Body) (after : List ℕ) : Type 0 where

@@ -1,12 +1,11 @@
 -- The documents in a buffer, by their index, and what a caller shows to name one.
 use Rattle.std.specs.Prelude.{◌≡◌, List, [], ℕ, ◌+◌, ◌*◌, ◌<◌, length, get_or, take}
+use Rattle.std.specs.Prelude.{Result, Ok, Err}
 use Rattle.rules.specs.Layout.{row_size}
 use Rattle.rules.specs.Map.{Map}
 use Rattle.rules.specs.Order.{order_bytes}
 use Rattle.rules.specs.Replica.{Id, Tree, Document, tree_of, revisions_held}
 use Rattle.tree.specs.declared.table.Body.{Body}
-use Rattle.tree.specs.declared.table.Found.{Found}
-use Rattle.tree.specs.declared.table.Found.TheVariants.{At, Gap}
 use Rattle.tree.specs.Table.{body, tree_in, Within, place}
 use Rattle.store.specs.Storage.{rows_place, replica_of, Laid}
 
@@ -31,7 +30,7 @@ row_place k = rows_place + row_size * k
 -- ---- searching
 
 -- where the document i is, or the gap where it would go
-abbrev pub place_of_id : ℕ → Id → Map Id Document → Found
+abbrev pub place_of_id : ℕ → Id → Map Id Document → Result ℕ ℕ
 place_of_id n i ds = place order_bytes n i ds
 
 -- ---- contracts
@@ -48,14 +47,14 @@ pub record IsBody (s : List ℕ) (d : ℕ) (b : Body) : Type 0 where
   pub rows : b.rows ≡ length (document_at (documents_of s) d).1.tree
 
 -- of a document that is absent: no rows
-abbrev pub body_at : Map Id Document → Found → Body
-body_at ds (At d) = body (row_place (first_row ds d)) (length (document_at ds d).1.tree)
-body_at ds (Gap d) = body rows_place 0
+abbrev pub body_at : Map Id Document → Result ℕ ℕ → Body
+body_at ds (Ok d) = body (row_place (first_row ds d)) (length (document_at ds d).1.tree)
+body_at ds (Err d) = body rows_place 0
 
 -- a document of s was looked for
-abbrev pub Looked : List ℕ → Found → Type 0
-Looked s (At d) = HasDocument s d
-Looked s (Gap d) = Laid s
+abbrev pub Looked : List ℕ → Result ℕ ℕ → Type 0
+Looked s (Ok d) = HasDocument s d
+Looked s (Err d) = Laid s
 
 -- the rows there are the tree t
 pub record Shows (s : List ℕ) (b : Body) (t : Tree) : Type 0 where

@@ -1,10 +1,10 @@
 // Changes of a replica in a buffer. Each leaves the exact bytes of the changed replica.
 ghost use Rattle.std.specs.Prelude.{◌≡◌, ℕ, ◌+◌, ◌*◌, ◌<◌, ◌≤◌, length};
-ghost use Rattle.std.proofs.Math.Option.{some};
+ghost use Rattle.std.specs.Prelude.{Some};
 ghost use Rattle.rules.specs.Replica.{fresh};
 ghost use Rattle.rules.specs.Room.{id_most};
-ghost use Rattle.rules.specs.Write.{keeps, learn};
-ghost use Rattle.tree.specs.Rows.{content_of, meaning};
+ghost use Rattle.rules.specs.Write.{learn};
+ghost use Rattle.tree.specs.Rows.{meaning};
 ghost use Rattle.tree.specs.Table.{insert_at};
 ghost use Rattle.store.specs.Storage.{store_size, stored_entry, replica_of, stored, Laid};
 ghost use Rattle.store.specs.Documents.{HasDocument};
@@ -16,8 +16,8 @@ use layout::head::{put_documents, put_revisions, put_sequence};
 use layout::{ENTRY, ID_IN, ROW, ROWS, SIZE};
 use octets::run::{clear, copy_in, move_up};
 use rules::Seq;
-use tree::row::{Kind, Row, put_row};
-use tree::table::{Body, Found, find, insert_row, row_at};
+use tree::row::{Row, put_row};
+use tree::table::{Body, find, insert_row, row_at};
 
 // Makes the buffer a fresh replica, whatever it held.
 pub fn make_fresh(b: &mut [u8])
@@ -71,39 +71,18 @@ fn insert_row_in(b: &mut [u8], d: usize, body: Body, i: usize, row: Row)
     put_revisions(b, n + 1);
 }
 
-fn kept(given: Kind, held: Kind) -> Kind
-    ensures { content_of result ≡ keeps (content_of given) (content_of held) }
-{
-    match given {
-        Kind::Inner => Kind::Inner,
-        Kind::Leaf(_) => held,
-    }
-}
-
 // What is known of a revision once `given` is.
 fn merged(held: Row, given: Row) -> Row
     requires { held.rev ≡ given.rev }
-    ensures { meaning result ≡ (given.rev, learn (meaning given).1 (some (meaning held).1)) }
+    ensures { meaning result ≡ (given.rev, learn (meaning given).1 (Some (meaning held).1)) }
 {
     let rev = held.rev;
-    let g = given.kind;
-    let h = held.kind;
-    let kind = kept(g, h);
-    if held.known {
-        let parent = held.parent;
-        return Row {
-            rev,
-            known: true,
-            parent,
-            kind,
-        };
-    }
-    let parent = given.parent;
+    let parent = held.parent.or(given.parent);
+    let content = given.content.and(held.content);
     Row {
         rev,
-        known: given.known,
         parent,
-        kind,
+        content,
     }
 }
 
@@ -115,12 +94,12 @@ pub fn learn_row(b: &mut [u8], d: usize, body: Body, row: Row) -> Body
 {
     let rev = row.rev;
     match find(b, body, rev) {
-        Found::At(i) => {
+        Ok(i) => {
             let held = row_at(b, body, i);
             put_row(b, body.base + i * ROW, merged(held, row));
             body
         }
-        Found::Gap(i) => {
+        Err(i) => {
             insert_row_in(b, d, body, i, row);
             Body {
                 base: body.base,

@@ -9,8 +9,9 @@ use layout::entry::{entry_place, id, own, rows};
 use layout::head::{documents, revisions, sequence};
 use layout::{ROW, ROWS};
 use octets::order::order_bytes;
-use rules::{ID_MOST, Order, Seq};
-use tree::table::{Body, Found};
+use rules::{ID_MOST, Seq};
+use std::cmp::Ordering;
+use tree::table::Body;
 
 // Refusal 1.
 pub fn bad_id(id: &[u8]) -> bool
@@ -64,11 +65,9 @@ fn first_row(b: &[u8], d: usize) -> usize
     requires { HasDocument b.now d }
     ensures { result ≡ first_row (documents_of b.now) d }
 {
-    let mut i = 0;
     let mut sum = 0;
-    while i < d {
+    for i in 0..d {
         sum += row_count(b, i);
-        i += 1;
     }
     sum
 }
@@ -82,26 +81,23 @@ pub fn id_of(b: &[u8], d: usize) -> &[u8]
 }
 
 // Where the document `id` is, or the gap where it would go.
-pub fn find_document(b: &[u8], id: &[u8]) -> Found
+pub fn find_document(b: &[u8], id: &[u8]) -> Result<usize, usize>
     requires { Laid b.now }
     ensures { result ≡ place_of_id 0 id.now (documents_of b.now) }
 {
     let n = documents_held(b);
-    let mut i = 0;
-    while i < n {
-        let d = i;
-        i += 1;
+    for d in 0..n {
         match order_bytes(id, id_of(b, d)) {
-            Order::Less => {
-                return Found::Gap(d);
+            Ordering::Less => {
+                return Err(d);
             }
-            Order::Equal => {
-                return Found::At(d);
+            Ordering::Equal => {
+                return Ok(d);
             }
-            Order::Greater => {}
+            Ordering::Greater => {}
         }
     }
-    Found::Gap(n)
+    Err(n)
 }
 
 // The rows of document d.
@@ -118,13 +114,13 @@ pub fn body_of(b: &[u8], d: usize) -> Body
 }
 
 // The rows of a document that was looked for, none where it is absent.
-pub fn body_at(b: &[u8], found: Found) -> Body
+pub fn body_at(b: &[u8], found: Result<usize, usize>) -> Body
     requires { Looked b.now found }
     ensures { result ≡ body_at (documents_of b.now) found }
 {
     match found {
-        Found::At(d) => body_of(b, d),
-        Found::Gap(_) => Body {
+        Ok(d) => body_of(b, d),
+        Err(_) => Body {
             base: ROWS,
             rows: 0,
         },

@@ -2,7 +2,7 @@
 use mathlib.Core.Bool.{Bool, true, false, ◌&&◌}
 use mathlib.Core.List.{List, [], ◌∷◌}
 use mathlib.Core.Logic.{◌⊎◌, inl, inr}
-use mathlib.Core.Option.{Option, none, some}
+use Rattle.std.specs.Prelude.{Option, None, Some}
 use mathlib.Core.Path.{◌≡◌, refl, sym, ap, ◌∙◌, subst}
 use Prim.Native.Nat.{ℕ, suc, ◌+◌, ◌-◌, ◌≤◌, ◌<◌}
 use native.Mathlib.Omega.{arith}
@@ -21,9 +21,8 @@ use Rattle.values.proofs.TextLaws.{value_text}
 use Rattle.values.proofs.FirstLaws.{string_item, plain_string_at, PlainByte, PlainBytes}
 use Rattle.lines.specs.Said.{all, is_hex_digit, of_string, read_hash}
 use Rattle.lines.proofs.SaidLaws.{and_left, and_right, hash_is, hex_digit_range}
-use Rattle.fields.specs.Fields.{HashTaken}
 use Rattle.takes.specs.Spots.{ValueAt}
-use Rattle.takes.specs.Path.{hash_in, HashLaid}
+use Rattle.takes.specs.Path.{hash_in}
 use Rattle.takes.proofs.ValueLaws.{is_string, string_said, no_string}
 
 -- ---- by its bytes
@@ -32,18 +31,18 @@ pub record HashParts (s : List ℕ) (i : ℕ) (h : Hash) : Type 0 where
   pub within : i + 34 ≤ length s
   pub opens : get_or s i 0 ≡ 34
   pub closes : get_or s (i + 33) 0 ≡ 34
-  pub hash : read_hash (take 32 (drop (i + 1) s)) ≡ some h
+  pub hash : read_hash (take 32 (drop (i + 1) s)) ≡ Some h
 
 module _ (s : List ℕ) (i : ℕ) where
-  pub hash_parts : (h : Hash) → hash_in s i ≡ some h → HashParts s i h
+  pub hash_parts : (h : Hash) → hash_in s i ≡ Some h → HashParts s i h
   unfolding hash_in
   hash_parts h e = go (leb (i + 34) (length s)) (eqb (get_or s i 0) 34) (eqb (get_or s (i + 33) 0) 34) refl refl refl e
     where
-      no : ◌≡◌ {A = Option Hash} none (some h) → ⊥
+      no : ◌≡◌ {A = Option Hash} None (Some h) → ⊥
       no k = let z : ◌≡◌ {A = ℕ} 0 1 = cc in omega arith
 
       go : (a b c : Bool) → leb (i + 34) (length s) ≡ a → eqb (get_or s i 0) 34 ≡ b → eqb (get_or s (i + 33) 0) 34 ≡ c
-          → pick (a && (b && c)) (read_hash (take 32 (drop (i + 1) s))) none ≡ some h → HashParts s i h
+          → pick (a && (b && c)) (read_hash (take 32 (drop (i + 1) s))) None ≡ Some h → HashParts s i h
       go true true true p q r f =
           record { within = leb-true (i + 34) (length s) p; opens = eqb-true (get_or s i 0) 34 q; closes = eqb-true (get_or s (i + 33) 0) 34 r; hash = f }
       go true true false p q r f = absurd (no f)
@@ -54,7 +53,7 @@ module _ (s : List ℕ) (i : ℕ) where
   unfolding hash_in
   hash_in_lem p q r = rw (le-leb (i + 34) (length s) p, eq-eqb (get_or s i 0) 34 q, eq-eqb (get_or s (i + 33) 0) 34 r)
 
-  pub hash_short : length s < i + 34 → hash_in s i ≡ none
+  pub hash_short : length s < i + 34 → hash_in s i ≡ None
   unfolding hash_in
   hash_short p = rw (lt-leb (i + 34) (length s) p)
 
@@ -67,24 +66,13 @@ module _ (s : List ℕ) (i : ℕ) where
   false_and true b = refl
   false_and false b = refl
 
-  pub hash_open : (get_or s i 0 ≡ 34 → ⊥) → hash_in s i ≡ none
+  pub hash_open : (get_or s i 0 ≡ 34 → ⊥) → hash_in s i ≡ None
   unfolding hash_in
   hash_open f = rw (ne_eqb (get_or s i 0) 34 f, false_and (leb (i + 34) (length s)) (eqb (get_or s (i + 33) 0) 34))
 
-  pub hash_close : (get_or s (i + 33) 0 ≡ 34 → ⊥) → hash_in s i ≡ none
+  pub hash_close : (get_or s (i + 33) 0 ≡ 34 → ⊥) → hash_in s i ≡ None
   unfolding hash_in
   hash_close f = rw (ne_eqb (get_or s (i + 33) 0) 34 f, and_false (leb (i + 34) (length s)) (eqb (get_or s i 0) 34))
-
-  -- ---- the needs of `hash_in`
-
-  pub none_laid : (path : List ℕ) (at : ℕ) → hash_in s i ≡ none → HashLaid s i path at false path
-  none_laid path at e = record { is = rw e; left = rw e }
-
-  pub some_laid : {path after : List ℕ} {at : ℕ} {r : Bool} (n : ℕ) → n ≡ 32 → hash_in s i ≡ read_hash (take 32 (drop (i + 1) s))
-      → HashTaken (take n (drop (i + 1) s)) path at r after → HashLaid s i path at r after
-  some_laid n q e h =
-      let f : hash_in s i ≡ read_hash (take n (drop (i + 1) s)) = e ∙ ap (λ (k : ℕ). read_hash (take k (drop (i + 1) s))) (sym q) in
-      record { is = rw f h.is; left = rw f h.left }
 
   -- ---- as an item of an array
 
@@ -100,7 +88,7 @@ module _ (s : List ℕ) (i : ℕ) where
   pub record HashItem (d : ℕ) (h : Hash) : Type 0 where
     pub value : Json (suc d)
     pub item : ItemAt (value_of (suc d)) value s i (i + 34)
-    pub said : of_string read_hash value ≡ some h
+    pub said : of_string read_hash value ≡ Some h
 
   pub hash_item : (d : ℕ) (h : Hash) → HashParts s i h → HashItem d h
   hash_item d h p =
@@ -130,26 +118,26 @@ module _ (s : List ℕ) (i : ℕ) where
       let e : drop (i + length t.text) s ≡ r = sym (drop-drop (length t.text) i s) ∙ (ap (drop (length t.text)) t.is ∙ drop_at t.text r (length t.text) refl) in
       record { end = i + length t.text; at = record { from = omega arith; within = omega arith; is = subst (value_of d j (drop i s)) (sym e) p } }
 
-  pub no_hash : (d : ℕ) (j : Json (suc d)) (r : List ℕ) → i ≤ length s → hash_in s i ≡ none → value_of (suc d) j (drop i s) r → of_string read_hash j ≡ none
+  pub no_hash : (d : ℕ) (j : Json (suc d)) (r : List ℕ) → i ≤ length s → hash_in s i ≡ None → value_of (suc d) j (drop i s) r → of_string read_hash j ≡ None
   no_hash d j r h none_here p = go (eqb (get_or s i 0) 34) refl
     where
-      go : (b : Bool) → eqb (get_or s i 0) 34 ≡ b → of_string read_hash j ≡ none
+      go : (b : Bool) → eqb (get_or s i 0) 34 ≡ b → of_string read_hash j ≡ None
       go false q = no_string read_hash j (place (suc d) j r h p).at (eqb-false (get_or s i 0) 34 q)
       go true q =
           let x = place (suc d) j r h p in
           let o = eqb-true (get_or s i 0) 34 q in
           string_said read_hash j x.at o ∙ end x.end x.at.within (is_string j x.at o).quotes.wide (is_string j x.at o).quotes.closes o
         where
-          end : (e : ℕ) → e ≤ length s → i + 2 ≤ e → get_or s (e - 1) 0 ≡ 34 → get_or s i 0 ≡ 34 → read_hash (take (e - 1 - (i + 1)) (drop (i + 1) s)) ≡ none
+          end : (e : ℕ) → e ≤ length s → i + 2 ≤ e → get_or s (e - 1) 0 ≡ 34 → get_or s i 0 ≡ 34 → read_hash (take (e - 1 - (i + 1)) (drop (i + 1) s)) ≡ None
           end e a b c o = is (read_hash (take (e - 1 - (i + 1)) (drop (i + 1) s))) refl
             where
-              is : (x : Option Hash) → read_hash (take (e - 1 - (i + 1)) (drop (i + 1) s)) ≡ x → x ≡ none
-              is none f = refl
-              is (some g) f =
+              is : (x : Option Hash) → read_hash (take (e - 1 - (i + 1)) (drop (i + 1) s)) ≡ x → x ≡ None
+              is None f = refl
+              is (Some g) f =
                   let n : length (take (e - 1 - (i + 1)) (drop (i + 1) s)) ≡ 32 = (hash_is (take (e - 1 - (i + 1)) (drop (i + 1) s)) f).0 in
                   let m : e ≡ i + 34 = omega (arith, simp (length-take, length-drop) at n) in
                   let u : e - 1 ≡ i + 33 = omega arith in
                   let v : e - 1 - (i + 1) ≡ 32 = omega arith in
                   let k : get_or s (i + 33) 0 ≡ 34 = ap (λ (y : ℕ). get_or s y 0) (sym u) ∙ c in
-                  let z : read_hash (take 32 (drop (i + 1) s)) ≡ some g = ap (λ (y : ℕ). read_hash (take y (drop (i + 1) s))) (sym v) ∙ f in
+                  let z : read_hash (take 32 (drop (i + 1) s)) ≡ Some g = ap (λ (y : ℕ). read_hash (take y (drop (i + 1) s))) (sym v) ∙ f in
                   sym z ∙ (sym (hash_in_lem (omega arith) o k) ∙ none_here)

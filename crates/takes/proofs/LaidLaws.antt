@@ -1,8 +1,9 @@
 -- Hashes laid down one after the other, and the write of them. Assumes nothing.
 use mathlib.Core.Bool.{Bool, true, false, not, ◌||◌}
+use Rattle.std.specs.Prelude.{Err}
 use mathlib.Core.List.{List, [], ◌∷◌, ◌++◌, append-nil, append_assoc}
 use mathlib.Core.Logic.{◌⊎◌, inl, inr}
-use mathlib.Core.Option.{Option, none, some}
+use Rattle.std.specs.Prelude.{Option, None, Some}
 use mathlib.Core.Path.{◌≡◌, refl, sym, ap, ◌∙◌}
 use Prim.Native.Nat.{ℕ, zero, suc, ◌+◌, ◌*◌, ◌/◌, ◌%◌, ◌≤◌, ◌<◌, min}
 use native.Mathlib.Omega.{arith}
@@ -14,7 +15,6 @@ use Rattle.json_text.proofs.WsLaws.{lt_or_ge}
 use Rattle.rules.specs.declared.Content.{Content}
 use Rattle.rules.specs.declared.Refusal.TheVariants.{BadId, BadPath}
 use Rattle.rules.specs.declared.RevNumber.{RevNumber}
-use Rattle.rules.specs.declared.Written.TheVariants.{Refused}
 use Rattle.rules.specs.Bytes.{join}
 use Rattle.rules.specs.Choice.{pick, first_that}
 use Rattle.rules.specs.Read.{first_of}
@@ -68,7 +68,7 @@ laid_none path e = record {
   held = inl (refl, refl);
 }
   where
-    no : (h : Hash) → ◌≡◌ {A = Option Hash} none (some h) → ⊥
+    no : (h : Hash) → ◌≡◌ {A = Option Hash} None (Some h) → ⊥
     no h k = let z : ◌≡◌ {A = ℕ} 0 1 = cc in omega arith
 
 module _ (hs : List Hash) (n k : ℕ) (path after : List ℕ) (h : Hash)
@@ -79,7 +79,7 @@ module _ (hs : List Hash) (n k : ℕ) (path after : List ℕ) (h : Hash)
   fits : k * hash_size + length h ≤ length path
   fits = let a = small in let r = l.room in omega arith
 
-  next_first : (x : Hash) → first_of (hs ++ (h ∷ [])) ≡ some x → take hash_size after ≡ x
+  next_first : (x : Hash) → first_of (hs ++ (h ∷ [])) ≡ Some x → take hash_size after ≡ x
   next_first x f = go hs refl l.held f
     where
       starts : k ≡ 0 → take hash_size after ≡ h
@@ -88,13 +88,13 @@ module _ (hs : List Hash) (n k : ℕ) (path after : List ℕ) (h : Hash)
           ap (take hash_size) put ∙ take-splice path (k * hash_size) h hash_size (omega arith) (omega arith)
           ∙ ap (λ (i : ℕ). take (i * hash_size) path ++ h) z
 
-      keeps : (y : Hash) → first_of hs ≡ some y → 1 ≤ k → take hash_size after ≡ y
+      keeps : (y : Hash) → first_of hs ≡ Some y → 1 ≤ k → take hash_size after ≡ y
       keeps y g z =
           let r = fits in
           ap (take hash_size) put ∙ (take-before path (k * hash_size) h hash_size (omega arith) (omega arith) ∙ l.first y g)
 
       go : (ys : List Hash) → hs ≡ ys → ((length hs ≡ n) × (take (n * hash_size) path ≡ join hs)) ⊎ ((hashes_most < length hs) × (n ≡ laid_most))
-          → first_of (ys ++ (h ∷ [])) ≡ some x → take hash_size after ≡ x
+          → first_of (ys ++ (h ∷ [])) ≡ Some x → take hash_size after ≡ x
       go [] e (inl p) g = let a : length hs ≡ 0 = ap length e in let b = p.0 in starts (omega arith) ∙ cc
       go [] e (inr p) g = let a : length hs ≡ 0 = ap length e in let b = p.0 in absurd (omega arith)
       go (y ∷ ys) e p g = keeps x (ap first_of e ∙ g) (positive n refl)
@@ -148,11 +148,11 @@ module _ (r : Replica) (i : Id) (v : RevNumber) (c : Content) where
       or false true = refl
       or false false = refl
 
-  refused : (p : List ℕ) → bad_path (write_of i v p c) ≡ true → write r (write_of i v p c) ≡ pick (bad_id i) (Refused BadId, r) (Refused BadPath, r)
+  refused : (p : List ℕ) → bad_path (write_of i v p c) ≡ true → write r (write_of i v p c) ≡ pick (bad_id i) (Err BadId, r) (Err BadPath, r)
   unfolding write write_refusals first_that
   refused p f = go (bad_id i) refl
     where
-      go : (a : Bool) → bad_id i ≡ a → write r (write_of i v p c) ≡ pick a (Refused BadId, r) (Refused BadPath, r)
+      go : (a : Bool) → bad_id i ≡ a → write r (write_of i v p c) ≡ pick a (Err BadId, r) (Err BadPath, r)
       go true e = rw e
       go false e = rw (e, f)
 

@@ -1,8 +1,12 @@
 -- What the spots of a line's members say, and what the members do. Assumes nothing.
 use mathlib.Core.Bool.{Bool, true, false}
+use Rattle.rules.specs.declared.Content.{Content}
 use mathlib.Core.List.{List, [], ◌∷◌}
 use mathlib.Core.Logic.{◌⊎◌, inl, inr}
-use mathlib.Core.Option.{Option, none, some}
+use Rattle.std.specs.Prelude.{Option, None, Some, Result, Ok, Err}
+use native.Mathlib.Omega.{arith}
+use Rattle.std.specs.Option.{ok_or}
+use Rattle.std.specs.Result.{result_ok}
 use mathlib.Core.Path.{◌≡◌, refl, sym, ap, ◌∙◌}
 use Prim.Native.Nat.{ℕ, suc, ◌+◌, ◌-◌}
 use borrow.Author.Tests.{eq-eqb, ne_eqb, eqb-true, eqb-false}
@@ -17,14 +21,7 @@ use Rattle.lines.specs.Said.{once, of_string, of_plain, read_number, all, is_dig
 use Rattle.lines.specs.Take.{read_true, read_label, read_content}
 use Rattle.takes.specs.declared.Spot.{Spot}
 use Rattle.takes.specs.declared.Spot.TheVariants.{Absent, Once, Repeated}
-use Rattle.takes.specs.declared.Spots.{Spots}
-use Rattle.takes.specs.declared.ContentSaid.{ContentSaid}
-use Rattle.takes.specs.declared.ContentSaid.TheVariants as content
-use Rattle.fields.specs.declared.NumberSaid.{NumberSaid}
-use Rattle.fields.specs.declared.NumberSaid.TheVariants as number
-use Rattle.fields.specs.Fields.{number_said}
-use Rattle.takes.specs.declared.Part.TheVariants as part
-use Rattle.takes.specs.Spots.{ValueAt, SpotIs, SpotsAre, Fits, AllFit, string_in, plain_in, part_text, content_in, content_said}
+use Rattle.takes.specs.Spots.{ValueAt, SpotIs, Spots, spot, SpotsAre, Fits, AllFit, string_in, plain_in, part_text, content_in}
 use Rattle.takes.proofs.ValueLaws.{is_string, string_said, no_string, plain_said}
 
 -- ---- one spot
@@ -36,32 +33,32 @@ module _ (d : ℕ) (s : List ℕ) (vs : List (Json (suc d))) where
   spot_fits Repeated h = tt
 
   pub said_string : {B : Type 0} (f : List ℕ → Option B) (p : Spot) → SpotIs (suc d) s vs p
-      → maybe none (of_string f) (once vs) ≡ maybe none f (part_text s (string_in s p))
+      → maybe None (of_string f) (once vs) ≡ maybe None f (part_text s (string_in s p))
   said_string f Absent h = rw h
-  said_string {B} f (Once v e) h = ap (λ (l : List (Json (suc d))). maybe {B = Option B} none (of_string f) (once l)) h.1 ∙ go (eqb (get_or s v 0) 34) refl
+  said_string {B} f (Once v e) h = ap (λ (l : List (Json (suc d))). maybe {B = Option B} None (of_string f) (once l)) h.1 ∙ go (eqb (get_or s v 0) 34) refl
     where
-      go : (b : Bool) → eqb (get_or s v 0) 34 ≡ b → of_string f h.0 ≡ maybe none f (part_text s (pick b (part.In (v + 1) (e - 1)) part.Wrong))
+      go : (b : Bool) → eqb (get_or s v 0) 34 ≡ b → of_string f h.0 ≡ maybe None f (part_text s (pick b (Some (v + 1, e - 1)) None))
       go true q = string_said f h.0 h.2 (eqb-true (get_or s v 0) 34 q)
       go false q = no_string f h.0 h.2 (eqb-false (get_or s v 0) 34 q)
-  said_string {B} f Repeated h = ap (λ (l : List (Json (suc d))). maybe {B = Option B} none (of_string f) (once l)) h.3
+  said_string {B} f Repeated h = ap (λ (l : List (Json (suc d))). maybe {B = Option B} None (of_string f) (once l)) h.3
 
-  pub said_plain : {B : Type 0} (f : List ℕ → Option B) → f [] ≡ none → ((t : List ℕ) → f (123 ∷ t) ≡ none) → ((t : List ℕ) → f (91 ∷ t) ≡ none)
-      → (p : Spot) → SpotIs (suc d) s vs p → maybe none (of_plain f) (once vs) ≡ maybe none f (part_text s (plain_in p))
+  pub said_plain : {B : Type 0} (f : List ℕ → Option B) → f [] ≡ None → ((t : List ℕ) → f (123 ∷ t) ≡ None) → ((t : List ℕ) → f (91 ∷ t) ≡ None)
+      → (p : Spot) → SpotIs (suc d) s vs p → maybe None (of_plain f) (once vs) ≡ maybe None f (part_text s (plain_in p))
   said_plain f x y z Absent h = rw h
-  said_plain {B} f x y z (Once v e) h = ap (λ (l : List (Json (suc d))). maybe {B = Option B} none (of_plain f) (once l)) h.1 ∙ plain_said f x y z h.0 h.2
-  said_plain {B} f x y z Repeated h = ap (λ (l : List (Json (suc d))). maybe {B = Option B} none (of_plain f) (once l)) h.3
+  said_plain {B} f x y z (Once v e) h = ap (λ (l : List (Json (suc d))). maybe {B = Option B} None (of_plain f) (once l)) h.1 ∙ plain_said f x y z h.0 h.2
+  said_plain {B} f x y z Repeated h = ap (λ (l : List (Json (suc d))). maybe {B = Option B} None (of_plain f) (once l)) h.3
 
 -- ---- numbers and `true`
 
-pub number_brace : (most : ℕ) (t : List ℕ) → read_number most (123 ∷ t) ≡ none
+pub number_brace : (most : ℕ) (t : List ℕ) → read_number most (123 ∷ t) ≡ None
 unfolding read_number all is_digit
 number_brace most t = refl
 
-pub number_bracket : (most : ℕ) (t : List ℕ) → read_number most (91 ∷ t) ≡ none
+pub number_bracket : (most : ℕ) (t : List ℕ) → read_number most (91 ∷ t) ≡ None
 unfolding read_number all is_digit
 number_bracket most t = refl
 
-pub number_none : (most : ℕ) → read_number most [] ≡ none
+pub number_none : (most : ℕ) → read_number most [] ≡ None
 unfolding read_number
 number_none most = refl
 
@@ -90,15 +87,7 @@ module _ (d : ℕ) (s : List ℕ) (ds ls : List (Json (suc d))) where
 -- ---- all spots
 
 pub all_fit : {d : ℕ} {s : List ℕ} {ms : List (List ℕ × Json (suc d))} {p : Spots} → SpotsAre (suc d) s ms p → AllFit s p
-all_fit {d} {s} {ms} {p} h = record {
-  id = spot_fits d s _ p.id h.id;
-  rev = spot_fits d s _ p.rev h.rev;
-  revisions = spot_fits d s _ p.revisions h.revisions;
-  deleted = spot_fits d s _ p.deleted h.deleted;
-  label = spot_fits d s _ p.label h.label;
-  start = spot_fits d s _ p.start h.start;
-  ids = spot_fits d s _ p.ids h.ids;
-}
+all_fit {d} {s} {ms} {p} h = λ n. spot_fits d s _ (spot p n) (h.are n)
 
 -- ---- the needs of `string_in`, `number_in`, `label_in` and `content_in`
 
@@ -106,64 +95,76 @@ all_fit {d} {s} {ms} {p} h = record {
 pub once_fits : (s : List ℕ) (p : Spot) (v e : ℕ) → Fits s p → p ≡ Once v e → Fits s (Once v e)
 once_fits s p v e h f = rw f at h
 
-pub no_part : (s : List ℕ) (p : Spot) → (p ≡ Absent) ⊎ (p ≡ Repeated) → part.Wrong ≡ string_in s p
+pub no_part : (s : List ℕ) (p : Spot) → (p ≡ Absent) ⊎ (p ≡ Repeated) → None ≡ string_in s p
 no_part s p (inl e) = rw e
 no_part s p (inr e) = rw e
 
-pub no_quote : (s : List ℕ) (p : Spot) (v e b : ℕ) → p ≡ Once v e → b ≡ get_or s v 0 → (b ≡ 34 → ⊥) → part.Wrong ≡ string_in s p
+pub no_quote : (s : List ℕ) (p : Spot) (v e b : ℕ) → p ≡ Once v e → b ≡ get_or s v 0 → (b ≡ 34 → ⊥) → None ≡ string_in s p
 no_quote s p v e b f g k = rw (f, ne_eqb (get_or s v 0) 34 (λ q. k (g ∙ q)))
 
-pub a_string : (s : List ℕ) (p : Spot) (v e b : ℕ) → p ≡ Once v e → b ≡ get_or s v 0 → b ≡ 34 → part.In (v + 1) (e - 1) ≡ string_in s p
+pub a_string : (s : List ℕ) (p : Spot) (v e b : ℕ) → p ≡ Once v e → b ≡ get_or s v 0 → b ≡ 34 → Some (v + 1, e - 1) ≡ string_in s p
 a_string s p v e b f g k = rw (f, eq-eqb (get_or s v 0) 34 (sym g ∙ k))
 
-pub no_number : (s : List ℕ) (p : Spot) (most : ℕ) → (p ≡ Absent) ⊎ (p ≡ Repeated) → number_said number.Wrong ≡ maybe none (read_number most) (part_text s (plain_in p))
+pub no_number : (s : List ℕ) (p : Spot) (most : ℕ) → (p ≡ Absent) ⊎ (p ≡ Repeated) → None ≡ maybe None (read_number most) (part_text s (plain_in p))
 no_number s p most (inl e) = rw e
 no_number s p most (inr e) = rw e
 
-pub a_number : (s : List ℕ) (p : Spot) (most v e : ℕ) (r : NumberSaid) → p ≡ Once v e → number_said r ≡ read_number most (take (e - v) (drop v s))
-    → number_said r ≡ maybe none (read_number most) (part_text s (plain_in p))
+pub a_number : (s : List ℕ) (p : Spot) (most v e : ℕ) (r : Option ℕ) → p ≡ Once v e → r ≡ read_number most (take (e - v) (drop v s))
+    → r ≡ maybe None (read_number most) (part_text s (plain_in p))
 a_number s p most v e r f g = rw f g
 
-label_is : (s : List ℕ) (q : Spot) → content_in s Absent q ≡ maybe none (λ n. some (Live n)) (maybe none (read_number 18446744073709551615) (part_text s (plain_in q)))
+label_is : (s : List ℕ) (q : Spot) → content_in s Absent q ≡ maybe None (λ n. Some (Live n)) (maybe None (read_number 18446744073709551615) (part_text s (plain_in q)))
 unfolding read_label
 label_is s Absent = refl
 label_is s (Once v e) = refl
 label_is s Repeated = refl
 
-pub a_label : (s : List ℕ) (q : Spot) (r : NumberSaid) (n : ℕ) → number_said r ≡ maybe none (read_number 18446744073709551615) (part_text s (plain_in q)) → r ≡ number.Said n
-    → content_said (content.Said (Live n)) ≡ content_in s Absent q
-a_label s q r n f g = sym (label_is s q ∙ ap (maybe none (λ (k : ℕ). some (Live k))) (sym f ∙ ap number_said g))
+pub a_label : (s : List ℕ) (q : Spot) (r : Option ℕ) (n : ℕ) → r ≡ maybe None (read_number 18446744073709551615) (part_text s (plain_in q)) → r ≡ Some n
+    → (Some (Live n)) ≡ content_in s Absent q
+a_label s q r n f g = sym (label_is s q ∙ ap (maybe None (λ (k : ℕ). Some (Live k))) (sym f ∙ g))
 
-pub no_label : (s : List ℕ) (q : Spot) (r : NumberSaid) → number_said r ≡ maybe none (read_number 18446744073709551615) (part_text s (plain_in q)) → r ≡ number.Wrong
-    → content_said content.Wrong ≡ content_in s Absent q
-no_label s q r f g = sym (label_is s q ∙ ap (maybe none (λ (k : ℕ). some (Live k))) (sym f ∙ ap number_said g))
+pub no_label : (s : List ℕ) (q : Spot) (r : Option ℕ) → r ≡ maybe None (read_number 18446744073709551615) (part_text s (plain_in q)) → r ≡ None
+    → None ≡ content_in s Absent q
+no_label s q r f g = sym (label_is s q ∙ ap (maybe None (λ (k : ℕ). Some (Live k))) (sym f ∙ g))
 
-pub deleted_twice : (s : List ℕ) (p q : Spot) → p ≡ Repeated → content_said content.Wrong ≡ content_in s p q
+pub deleted_twice : (s : List ℕ) (p q : Spot) → p ≡ Repeated → None ≡ content_in s p q
 deleted_twice s p q e = rw e (go q)
   where
-    go : (q : Spot) → none ≡ content_in s Repeated q
+    go : (q : Spot) → None ≡ content_in s Repeated q
     go Absent = refl
     go (Once v e) = refl
     go Repeated = refl
 
-pub no_deleted : (s : List ℕ) (p q : Spot) (r : ContentSaid) → (p ≡ Absent) ⊎ (p ≡ Repeated) → (p ≡ Repeated → ⊥) → content_said r ≡ content_in s Absent q → content_said r ≡ content_in s p q
+pub no_deleted : (s : List ℕ) (p q : Spot) (r : Option Content) → (p ≡ Absent) ⊎ (p ≡ Repeated) → (p ≡ Repeated → ⊥) → r ≡ content_in s Absent q → r ≡ content_in s p q
 no_deleted s p q r (inl e) f g = rw e g
 no_deleted s p q r (inr e) f g = absurd (f e)
 
-pub both_said : (s : List ℕ) (p q : Spot) (v e : ℕ) → p ≡ Once v e → (q ≡ Absent → ⊥) → content_said content.Wrong ≡ content_in s p q
+pub both_said : (s : List ℕ) (p q : Spot) (v e : ℕ) → p ≡ Once v e → (q ≡ Absent → ⊥) → None ≡ content_in s p q
 both_said s p q v e f g = rw f (go q g)
   where
-    go : (q : Spot) → (q ≡ Absent → ⊥) → none ≡ content_in s (Once v e) q
+    go : (q : Spot) → (q ≡ Absent → ⊥) → None ≡ content_in s (Once v e) q
     go Absent g = absurd (g refl)
     go (Once x y) g = refl
     go Repeated g = refl
 
 pub deleted_is : (s : List ℕ) (p q : Spot) (v e : ℕ) (b : Bool) → p ≡ Once v e → q ≡ Absent → b ≡ is_equal (order_bytes (text "true") (take (e - v) (drop v s))) → b ≡ true
-    → content_said (content.Said Deleted) ≡ content_in s p q
+    → (Some Deleted) ≡ content_in s p q
 unfolding read_true
 deleted_is s p q v e b f g h k = rw (f, g, sym h ∙ k)
 
 pub deleted_other : (s : List ℕ) (p q : Spot) (v e : ℕ) (b : Bool) → p ≡ Once v e → q ≡ Absent → b ≡ is_equal (order_bytes (text "true") (take (e - v) (drop v s))) → b ≡ false
-    → content_said content.Wrong ≡ content_in s p q
+    → None ≡ content_in s p q
 unfolding read_true
 deleted_other s p q v e b f g h k = rw (f, g, sym h ∙ k)
+
+-- ---- what a refusal in place of None tells
+
+pub none_ok : {A E : Type 0} {o : Option A} {err e : E} {r : Result A E} → r ≡ ok_or o err → r ≡ Err e → (o ≡ None) × (e ≡ err)
+none_ok {A} {E} {o} {err} {e} p q = go o (sym p ∙ q)
+  where
+    go : (o : Option A) → ok_or o err ≡ Err e → (o ≡ None) × (e ≡ err)
+    go None q = (refl, cc)
+    go (Some x) q = let z : ◌≡◌ {A = ℕ} 0 1 = cc in absurd (omega arith)
+
+pub some_ok : {A E : Type 0} {o : Option A} {r : Result A E} {x : A} → o ≡ result_ok r → r ≡ Ok x → o ≡ Some x
+some_ok p q = rw q at p

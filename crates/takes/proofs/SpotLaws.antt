@@ -1,44 +1,36 @@
 -- Laws of spots: one member more, and what all of them are at the end. Assumes nothing.
-use mathlib.Core.Bool.{Bool, true, false}
+use mathlib.Core.Bool.{Bool, true, false, true≢false}
 use mathlib.Core.List.{List, [], ◌∷◌, ◌++◌, append-nil}
 use mathlib.Core.Logic.{◌⊎◌, inl, inr}
-use mathlib.Core.Path.{◌≡◌, refl, sym, ap, subst}
-use Prim.Native.Nat.{ℕ}
+use mathlib.Core.Path.{◌≡◌, refl, sym, ap, ◌∙◌, subst}
+use Rattle.std.specs.Prelude.{Option, None, Some}
+use Prim.Native.Nat.{ℕ, ◌<◌}
 use Prim.Native.String.{String}
 use native.Mathlib.Omega.{arith}
-use borrow.Author.Tests.{eq-eqb, ne_eqb}
+use borrow.Author.Tests.{eq-eqb, eqb-true, eqb-false}
 use lib.Dec.{eqb}
+use lib.ListN.{length, get_or, set, length-set}
+use lib.Seq.{get_or-set_same, get_or-set_other}
 use Rattle.rules.specs.Choice.{pick}
 use Rattle.json_text.specs.Members.{Json}
 use Rattle.lines.specs.Said.{is_name, named}
 use Rattle.takes.specs.declared.Spot.{Spot}
 use Rattle.takes.specs.declared.Spot.TheVariants.{Absent, Once, Repeated}
-use Rattle.takes.specs.declared.Spots.{Spots}
-use Rattle.fields.specs.Fields.{name_at}
-use Rattle.fields.proofs.NameLaws.{is_name_lem}
-use Rattle.takes.specs.Spots.{ValueAt, SpotIs, SpotsAre, seen_at, see_at, no_spots}
+use Rattle.fields.specs.declared.Name.{Name}
+use Rattle.fields.specs.declared.Name.TheVariants.{Id, Rev, Revisions, Deleted, Label, Start, Ids}
+use Rattle.fields.specs.contracts.Name.{the_type}
+use denote.Enum.Declared.{tag_of}
+use Rattle.fields.specs.Fields.{word, place, is_place, name_at}
+use Rattle.fields.proofs.NameLaws.{place_same, is_name_lem}
+use Rattle.takes.specs.Spots.{ValueAt, SpotIs, Spots, spot, SpotsAre, one_more, see_at, no_spots}
 
--- ---- one value more
-
-pub seen_other : (p : Spot) (k n v e : ℕ) → (k ≡ n → ⊥) → p ≡ seen_at p (eqb k n) v e
-seen_other p k n v e f = rw (ne_eqb k n f)
-
-pub seen_first : (p : Spot) (k n v e : ℕ) → k ≡ n → p ≡ Absent → Once v e ≡ seen_at p (eqb k n) v e
-seen_first p k n v e f g = rw (eq-eqb k n f, g)
-
-pub seen_again : (p : Spot) (k n v e a b : ℕ) → k ≡ n → p ≡ Once a b → Repeated ≡ seen_at p (eqb k n) v e
-seen_again p k n v e a b f g = rw (eq-eqb k n f, g)
-
-pub seen_more : (p : Spot) (k n v e : ℕ) → k ≡ n → p ≡ Repeated → Repeated ≡ seen_at p (eqb k n) v e
-seen_more p k n v e f g = rw (eq-eqb k n f, g)
+-- ---- one member more
 
 -- what a match tells past the arm of `Once`
 pub not_once : (p : Spot) → ((v e : ℕ) → p ≡ Once v e → ⊥) → (p ≡ Absent) ⊎ (p ≡ Repeated)
 not_once Absent k = inl refl
 not_once (Once v e) k = absurd (k v e refl)
 not_once Repeated k = inr refl
-
--- ---- one member more
 
 named_more : {A : Type 0} (n : String) (ms : List (List ℕ × A)) (m : List ℕ × A)
     → named n (ms ++ (m ∷ [])) ≡ named n ms ++ pick (is_name n m.0) (m.1 ∷ []) []
@@ -51,6 +43,10 @@ named_more {A} n (x ∷ ms) m = go (is_name n x.0) (named_more n ms m)
     go true e = ap (λ (l : List A). x.1 ∷ l) e
     go false e = e
 
+-- a value from v to e seen, of that name or of another
+abbrev pub seen_at : Spot → Bool → ℕ → ℕ → Spot
+seen_at p hit v e = pick hit (one_more p v e) p
+
 module _ {d : ℕ} {s : List ℕ} {j : Json d} {v e : ℕ} (a : ValueAt d j s v e) where
   spot_more : (vs : List (Json d)) (p : Spot) (hit : Bool) → SpotIs d s vs p → SpotIs d s (vs ++ pick hit (j ∷ []) []) (seen_at p hit v e)
   spot_more vs p false h = rw append-nil h
@@ -58,45 +54,81 @@ module _ {d : ℕ} {s : List ℕ} {j : Json d} {v e : ℕ} (a : ValueAt d j s v 
   spot_more vs (Once x y) true h = (h.0, j, [], ap (λ (l : List (Json d)). l ++ (j ∷ [])) h.1)
   spot_more vs Repeated true h = (h.0, h.1, h.2 ++ (j ∷ []), ap (λ (l : List (Json d)). l ++ (j ∷ [])) h.3)
 
--- k is the place of the name t among the seven
-pub record NameIs (k : ℕ) (t : List ℕ) : Type 0 where
-  pub id : eqb k 0 ≡ is_name "_id" t
-  pub rev : eqb k 1 ≡ is_name "_rev" t
-  pub revisions : eqb k 2 ≡ is_name "_revisions" t
-  pub deleted : eqb k 3 ≡ is_name "_deleted" t
-  pub label : eqb k 4 ≡ is_name "label" t
-  pub start : eqb k 5 ≡ is_name "start" t
-  pub ids : eqb k 6 ≡ is_name "ids" t
+place_small : (n : Name) → place n < 7
+place_small Id = omega arith
+place_small Rev = omega arith
+place_small Revisions = omega arith
+place_small Deleted = omega arith
+place_small Label = omega arith
+place_small Start = omega arith
+place_small Ids = omega arith
 
-pub name_is : (t : List ℕ) → NameIs (name_at t) t
-name_is t = record {
-  id = sym (is_name_lem 0 (omega arith) t);
-  rev = sym (is_name_lem 1 (omega arith) t);
-  revisions = sym (is_name_lem 2 (omega arith) t);
-  deleted = sym (is_name_lem 3 (omega arith) t);
-  label = sym (is_name_lem 4 (omega arith) t);
-  start = sym (is_name_lem 5 (omega arith) t);
-  ids = sym (is_name_lem 6 (omega arith) t);
-}
+-- a name as a number is its place
+pub tag_place : (n : Name) → tag_of the_type n ≡ place n
+tag_place Id = refl
+tag_place Rev = refl
+tag_place Revisions = refl
+tag_place Deleted = refl
+tag_place Label = refl
+tag_place Start = refl
+tag_place Ids = refl
+
+pub at_place : (n : Name) (k : Option Name) → is_place (place n) k ≡ true → k ≡ Some n
+at_place n None e = absurd (true≢false (sym e))
+at_place n (Some m) e = ap Some (sym (place_same n m (eqb-true (place n) (place m) e)))
+
+pub not_at_place : (n : Name) (k : Option Name) → is_place (place n) k ≡ false → k ≡ Some n → ⊥
+not_at_place n k e f = true≢false (sym (eq-eqb (place n) (place n) refl) ∙ rw f at e)
+
+pub spot_seen : (p : Spots) (n : Name) (k : Option Name) (v e : ℕ) → length p ≡ 7 → spot (see_at p k v e) n ≡ seen_at (spot p n) (is_place (place n) k) v e
+unfolding see_at
+spot_seen p n None v e l = refl
+spot_seen p n (Some m) v e l = go (eqb (place n) (place m)) refl
+  where
+    go : (b : Bool) → eqb (place n) (place m) ≡ b → get_or (set p (place m) (one_more (spot p m) v e)) (place n) Absent ≡ pick b (one_more (spot p n) v e) (spot p n)
+    go true q =
+        let i : n ≡ m = place_same n m (eqb-true (place n) (place m) q) in
+        let h = place_small m in
+        rw i (get_or-set_same p (place m) (one_more (spot p m) v e) Absent (omega arith))
+    go false q = get_or-set_other p (place m) (place n) (one_more (spot p m) v e) Absent (eqb-false (place n) (place m) q)
+
+pub spot_none : (n : Name) → spot no_spots n ≡ Absent
+spot_none Id = refl
+spot_none Rev = refl
+spot_none Revisions = refl
+spot_none Deleted = refl
+spot_none Label = refl
+spot_none Start = refl
+spot_none Ids = refl
 
 pub spots_none : (d : ℕ) (s : List ℕ) → SpotsAre d s [] no_spots
-unfolding named
-spots_none d s = record { id = refl; rev = refl; revisions = refl; deleted = refl; label = refl; start = refl; ids = refl }
+spots_none d s = record { size = refl; are = λ n. rw (spot_none n) (unfold named in refl) }
 
-pub spots_more : {d : ℕ} {s : List ℕ} {ms : List (List ℕ × Json d)} {p : Spots} {m : List ℕ × Json d} {v e k : ℕ}
-    → SpotsAre d s ms p → ValueAt d m.1 s v e → NameIs k m.0 → SpotsAre d s (ms ++ (m ∷ [])) (see_at p k v e)
+size_more : (p : Spots) (k : Option Name) (v e : ℕ) → length p ≡ 7 → length (see_at p k v e) ≡ 7
 unfolding see_at
-spots_more {d} {s} {ms} {p} {m} {v} {e} {k} h a n = record {
-  id = one "_id" p.id (eqb k 0) n.id h.id;
-  rev = one "_rev" p.rev (eqb k 1) n.rev h.rev;
-  revisions = one "_revisions" p.revisions (eqb k 2) n.revisions h.revisions;
-  deleted = one "_deleted" p.deleted (eqb k 3) n.deleted h.deleted;
-  label = one "label" p.label (eqb k 4) n.label h.label;
-  start = one "start" p.start (eqb k 5) n.start h.start;
-  ids = one "ids" p.ids (eqb k 6) n.ids h.ids;
+size_more p None v e l = l
+size_more p (Some m) v e l = simp length-set l
+
+pub spots_more : {d : ℕ} {s : List ℕ} {ms : List (List ℕ × Json d)} {p : Spots} (m : List ℕ × Json d) {v e : ℕ} {k : Option Name}
+    → SpotsAre d s ms p → ValueAt d m.1 s v e → k ≡ name_at m.0 → SpotsAre d s (ms ++ (m ∷ [])) (see_at p k v e)
+spots_more {d} {s} {ms} {p} m {v} {e} {k} h a f = record {
+  size = size_more p k v e h.size;
+  are = λ n. subst (SpotIs d s (named (word n) (ms ++ (m ∷ [])))) (sym (spot_seen p n k v e h.size))
+      (one (word n) (spot p n) (is_place (place n) k) (ap (is_place (place n)) f ∙ sym (is_name_lem n m.0)) (h.are n));
 }
   where
     one : (name : String) (q : Spot) (b : Bool) → b ≡ is_name name m.0 → SpotIs d s (named name ms) q → SpotIs d s (named name (ms ++ (m ∷ []))) (seen_at q b v e)
     one name q b f g =
         subst (λ (vs : List (Json d)). SpotIs d s vs (seen_at q b v e)) (sym (named_more name ms m))
         (subst (λ (x : Bool). SpotIs d s (named name ms ++ pick x (m.1 ∷ []) []) (seen_at q b v e)) f (spot_more a (named name ms) q b g))
+
+-- ---- the needs of `see`
+
+pub see_some : (p : Spots) (k : Option Name) (n : Name) (v e : ℕ) {t : ℕ} {q : Spot} → k ≡ Some n → t ≡ place n → q ≡ one_more (get_or p t Absent) v e
+    → set p t q ≡ see_at p k v e
+unfolding see_at
+see_some p k n v e f g h = rw (h, f, g)
+
+pub see_none : (p : Spots) (k : Option Name) (v e : ℕ) → k ≡ None → p ≡ see_at p k v e
+unfolding see_at
+see_none p k v e f = rw f

@@ -1,7 +1,7 @@
 -- What a value's bytes say of it, at the places where it stands. Assumes nothing.
 use mathlib.Core.Bool.{false}
 use mathlib.Core.List.{List, [], ◌∷◌, ◌++◌}
-use mathlib.Core.Option.{Option, none, some}
+use Rattle.std.specs.Prelude.{Option, None, Some}
 use mathlib.Core.Path.{◌≡◌, refl, sym, ap, ◌∙◌}
 use Prim.Native.Nat.{ℕ, zero, suc, ◌+◌, ◌-◌}
 use native.Mathlib.Omega.{arith}
@@ -25,12 +25,12 @@ but_last_last [] c = refl
 but_last_last (x ∷ []) c = refl
 but_last_last (x ∷ y ∷ w) c = ap (λ (l : List ℕ). x ∷ l) (but_last_last (y ∷ w) c)
 
-unquoted : (w : List ℕ) → unquote (34 ∷ (w ++ (34 ∷ []))) ≡ some w
+unquoted : (w : List ℕ) → unquote (34 ∷ (w ++ (34 ∷ []))) ≡ Some w
 unfolding unquote
-unquoted w = ap some (but_last_last w 34)
+unquoted w = ap Some (but_last_last w 34)
 
 -- f makes nothing of what begins with c
-first : {B : Type 0} (f : List ℕ → Option B) (c : ℕ) (l : List ℕ) (n : ℕ) → f [] ≡ none → ((t : List ℕ) → f (c ∷ t) ≡ none) → f (take n (c ∷ l)) ≡ none
+first : {B : Type 0} (f : List ℕ → Option B) (c : ℕ) (l : List ℕ) (n : ℕ) → f [] ≡ None → ((t : List ℕ) → f (c ∷ t) ≡ None) → f (take n (c ∷ l)) ≡ None
 first f c l zero x y = x
 first f c l (suc n) x y = y (take n l)
 
@@ -62,11 +62,11 @@ module _ {d : ℕ} {s : List ℕ} {v e : ℕ} where
   unfolding of_string
   string_said {B} f j a q =
       let t = is_string j a q in
-      ap (λ (x : Form (Json d)). maybe {B = Option B} none (λ (l : List ℕ). maybe none f (unquote l)) (plain_text x)) t.is
-      ∙ ap (maybe none f) (ap unquote t.quotes.text ∙ unquoted (take (e - 1 - (v + 1)) (drop (v + 1) s)))
+      ap (λ (x : Form (Json d)). maybe {B = Option B} None (λ (l : List ℕ). maybe None f (unquote l)) (plain_text x)) t.is
+      ∙ ap (maybe None f) (ap unquote t.quotes.text ∙ unquoted (take (e - 1 - (v + 1)) (drop (v + 1) s)))
 
   -- a value that is no string
-  pub no_string : {B : Type 0} (f : List ℕ → Option B) (j : Json (suc d)) → ValueAt (suc d) j s v e → (get_or s v 0 ≡ 34 → ⊥) → of_string f j ≡ none
+  pub no_string : {B : Type 0} (f : List ℕ → Option B) (j : Json (suc d)) → ValueAt (suc d) j s v e → (get_or s v 0 ≡ 34 → ⊥) → of_string f j ≡ None
   unfolding of_string value_of form_of spelt unquote
   no_string f (Form.object ms) a q = refl
   no_string f (Form.array vs) a q = refl
@@ -76,7 +76,7 @@ module _ {d : ℕ} {s : List ℕ} {v e : ℕ} where
       rw g
 
   -- what f makes of a plain value, where it makes nothing of brackets
-  pub plain_said : {B : Type 0} (f : List ℕ → Option B) → f [] ≡ none → ((t : List ℕ) → f (123 ∷ t) ≡ none) → ((t : List ℕ) → f (91 ∷ t) ≡ none)
+  pub plain_said : {B : Type 0} (f : List ℕ → Option B) → f [] ≡ None → ((t : List ℕ) → f (123 ∷ t) ≡ None) → ((t : List ℕ) → f (91 ∷ t) ≡ None)
       → (j : Json (suc d)) → ValueAt (suc d) j s v e → of_plain f j ≡ f (take (e - v) (drop v s))
   unfolding of_plain value_of form_of spelt
   plain_said f x y z (plain t) a = ap f (cut_is s t v e a.from a.is.1)

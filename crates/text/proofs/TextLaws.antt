@@ -1,15 +1,5 @@
 -- Laws of decimal numbers and hex, and of one text written after another. Assumes nothing.
-use mathlib.Core.Path.{◌≡◌, refl, sym, ap, ◌∙◌, subst}
-use mathlib.Core.Bool.{Bool, true, false}
-use mathlib.Core.List.{List, [], ◌∷◌, ◌++◌, append_assoc}
-use mathlib.Core.Logic.{◌⊎◌, inl, inr}
-use Prim.Native.Nat.{ℕ, zero, suc, ◌+◌, ◌*◌, ◌/◌, ◌%◌, ◌≤◌, ◌<◌}
-use native.Mathlib.Omega.{arith}
-use native.Mathlib.Numerals.{add-one}
-use lib.Dec.{eqb, ltb}
-use lib.ListN.{length, take, get_or, set, length-append, length-take}
-use lib.Seq.{take-suc}
-use borrow.Author.Tests.{ne_eqb, eqb-true, ltb-true, ltb-false}
+use Rattle.std.proofs.Common.{◌≡◌, refl, sym, ap, ◌∙◌, subst, Bool, true, false, List, [], ◌∷◌, ◌++◌, append_assoc, ◌⊎◌, inl, inr, ℕ, zero, suc, ◌+◌, ◌*◌, ◌/◌, ◌%◌, ◌^◌, ◌≤◌, ◌<◌, pow-suc, Option, Some, None, IfSome, IfNone, unwrap_or, arith, add-one, eqb, ltb, length, take, get_or, set, length-append, length-take, take-suc, ne_eqb, eqb-true, ltb-true, ltb-false}
 use Rattle.rules.specs.declared.Revision.{Revision}
 use Rattle.rules.specs.Choice.{pick}
 use Rattle.rules.specs.Report.{digits, trim, decimal, hex_digit, hex, text, dash, rev_text}
@@ -165,6 +155,25 @@ digits_most (suc n) v h k = go (ltb v 10) refl (digits_most n (v / 10) (omega ar
 pub decimal_most_lem : (v : ℕ) → v < 4294967296 → length (decimal v) ≤ decimal_most
 unfolding tens
 decimal_most_lem v h = digits_most 9 v (omega arith) (omega arith)
+
+decimal_log : (k v : ℕ) → 10 ^ k ≤ v → v < 10 * 10 ^ k → Fits v → length (decimal v) ≡ k + 1
+decimal_log zero v h m f = length-digit v (omega arith)
+decimal_log (suc k) v h m f =
+    let e = pow-suc 10 k in
+    let p : 0 < 10 ^ k = pow-pos k in
+    let l = length_more v (omega arith) f in
+    let r = decimal_log k (v / 10) (omega arith) (omega arith) (omega arith) in
+    omega arith
+  where
+    pow-pos : (n : ℕ) → 0 < 10 ^ n
+    pow-pos zero = omega arith
+    pow-pos (suc n) = let q = pow-pos n in let e = pow-suc 10 n in omega arith
+
+-- how many digits a number has, by its logarithm
+pub length_log : (r : Option ℕ) {v : ℕ} → IfNone r (v ≡ 0) → IfSome r (λ k. 10 ^ k ≤ v) → IfSome r (λ k. v < 10 * 10 ^ k) → Fits v
+    → unwrap_or r 0 + 1 ≡ length (decimal v)
+length_log None {v} z h m f = sym (length-digit v (omega arith))
+length_log (Some k) {v} z h m f = sym (decimal_log k v h m f)
 
 pub put_digit : {s : List ℕ} {at v : ℕ} → v < 10 → at < length s → Put (decimal v) s at (at + 1) (set s at (48 + v))
 put_digit {s} {at} {v} h k = record {

@@ -1,7 +1,8 @@
 -- Leaves row by row, from the front and from the end, and their bytes. Assumes nothing.
 use mathlib.Core.Path.{◌≡◌, refl, sym, ap, ◌∙◌}
+use Rattle.std.specs.Prelude.{Option, None, Some, true, false, is_some}
 use mathlib.Core.List.{List, [], ◌∷◌, ◌++◌, map, append_assoc, append-nil}
-use Prim.Native.Nat.{ℕ, ◌+◌, ◌-◌, ◌*◌, ◌≤◌}
+use Prim.Native.Nat.{ℕ, ◌+◌, ◌-◌, ◌*◌, ◌≤◌, ◌<◌}
 use native.Mathlib.Nat.{zero-add}
 use native.Mathlib.Omega.{arith}
 use lib.ListN.{length, set, length-append}
@@ -15,11 +16,11 @@ use Rattle.rules.specs.Room.{hash_size}
 use Rattle.rules.proofs.ByteLaws.{length-be}
 use Rattle.octets.specs.Splice.{splice}
 use Rattle.octets.proofs.SpliceLaws.{length-splice, splice_none, chain, stores}
-use Rattle.tree.specs.declared.row.Kind.TheVariants.{Inner, Leaf}
+use Rattle.tree.specs.declared.row.Row.{Row}
 use Rattle.tree.specs.declared.table.Body.{Body}
-use Rattle.tree.specs.Rows.{content_of, meaning, row_at, node_at}
+use Rattle.tree.specs.Rows.{meaning, row_at, node_at}
 use Rattle.tree.specs.Table.{tree_at, tree_in, row_start}
-use Rattle.tree.specs.Leaf.{leaf_of, leaf_label_in, leaf_size}
+use Rattle.tree.specs.Leaf.{leaf_of, leaf_label_in, leaf_size, LeafPut}
 use Rattle.tree.proofs.RowLaws.{row_at_means}
 use Rattle.tree.proofs.TableLaws.{tree_cut, tree_one, tree_last}
 
@@ -37,7 +38,7 @@ leaves_one x = refl
 -- ---- the leaf in a row
 
 module _ (at : ℕ) (s : List ℕ) where
-  pub content_at_lem : content_of (row_at at s).kind ≡ (node_at at s).1.content
+  pub content_at_lem : (row_at at s).content ≡ (node_at at s).1.content
   unfolding meaning
   content_at_lem = ap (λ (x : Revision × Node). x.1.content) (row_at_means at s)
 
@@ -45,10 +46,10 @@ module _ (at : ℕ) (s : List ℕ) where
   unfolding meaning
   rev_of_row = ap (λ (x : Revision × Node). x.0) (row_at_means at s)
 
-  pub leaf_none : (row_at at s).kind ≡ Inner → leaf_in (node_at at s) ≡ []
+  pub leaf_none : (row_at at s).content ≡ None → leaf_in (node_at at s) ≡ []
   leaf_none e = rw (sym content_at_lem, e) refl
 
-  pub leaf_one : (c : Content) → (row_at at s).kind ≡ Leaf c → leaf_in (node_at at s) ≡ leaf_of (row_at at s).rev c ∷ []
+  pub leaf_one : (c : Content) → (row_at at s).content ≡ Some c → leaf_in (node_at at s) ≡ leaf_of (row_at at s).rev c ∷ []
   leaf_one c e = rw (sym content_at_lem, e, rev_of_row) refl
 
 -- ---- from the front
@@ -60,11 +61,20 @@ module _ (base i : ℕ) (s : List ℕ) where
       ∙ (leaves_append (tree_at base i s) (node_at (base + i * row_size) s ∷ [])
       ∙ ap (λ (l : List LeafOf). l ++ leaves (tree_at base i s)) (leaves_one (node_at (base + i * row_size) s)))
 
-  pub count_inner : (row_at (base + i * row_size) s).kind ≡ Inner → length (leaves (tree_at base (i + 1) s)) ≡ length (leaves (tree_at base i s))
-  count_inner e = ap length next ∙ rw (leaf_none (base + i * row_size) s e)
+  -- a row more, which is a leaf or is none
+  pub count_leaf : is_some (row_at (base + i * row_size) s).content ≡ true → length (leaves (tree_at base (i + 1) s)) ≡ length (leaves (tree_at base i s)) + 1
+  count_leaf e = go (row_at (base + i * row_size) s).content refl e
+    where
+      go : (k : Option Content) → (row_at (base + i * row_size) s).content ≡ k → is_some k ≡ true → length (leaves (tree_at base (i + 1) s)) ≡ length (leaves (tree_at base i s)) + 1
+      go None k z = absurd (let n : ◌≡◌ {A = ℕ} 0 1 = cc in omega arith)
+      go (Some c) k z = ap length next ∙ rw (leaf_one (base + i * row_size) s c k) (omega arith)
 
-  pub count_leaf : (c : Content) → (row_at (base + i * row_size) s).kind ≡ Leaf c → length (leaves (tree_at base (i + 1) s)) ≡ length (leaves (tree_at base i s)) + 1
-  count_leaf c e = ap length next ∙ rw (leaf_one (base + i * row_size) s c e) (omega arith)
+  pub count_inner : is_some (row_at (base + i * row_size) s).content ≡ false → length (leaves (tree_at base (i + 1) s)) ≡ length (leaves (tree_at base i s))
+  count_inner e = go (row_at (base + i * row_size) s).content refl e
+    where
+      go : (k : Option Content) → (row_at (base + i * row_size) s).content ≡ k → is_some k ≡ false → length (leaves (tree_at base (i + 1) s)) ≡ length (leaves (tree_at base i s))
+      go None k z = ap length next ∙ rw (leaf_none (base + i * row_size) s k)
+      go (Some c) k z = absurd (let n : ◌≡◌ {A = ℕ} 0 1 = cc in omega arith)
 
 pub count_none : (base : ℕ) (s : List ℕ) → length (leaves (tree_at base 0 s)) ≡ 0
 unfolding leaves tree_at pieces
@@ -99,10 +109,10 @@ module _ (b : Body) (i j : ℕ) (s : List ℕ) (e : i ≡ j + 1) (h : i ≤ b.ro
   unfolding leaves
   leaves_more = ap leaves rest_more
 
-  pub rest_inner : (row_at p s).kind ≡ Inner → leaves (rest b j s) ≡ leaves (rest b i s)
+  pub rest_inner : (row_at p s).content ≡ None → leaves (rest b j s) ≡ leaves (rest b i s)
   rest_inner k = leaves_more ∙ (ap (λ (l : List LeafOf). leaves (rest b i s) ++ l) (leaf_none p s k) ∙ append-nil (leaves (rest b i s)))
 
-  pub rest_leaf : (c : Content) → (row_at p s).kind ≡ Leaf c → leaves (rest b j s) ≡ leaves (rest b i s) ++ (leaf_of (row_at p s).rev c ∷ [])
+  pub rest_leaf : (c : Content) → (row_at p s).content ≡ Some c → leaves (rest b j s) ≡ leaves (rest b i s) ++ (leaf_of (row_at p s).rev c ∷ [])
   rest_leaf c k = leaves_more ∙ ap (λ (l : List LeafOf). leaves (rest b i s) ++ l) (leaf_one p s c k)
 
   rest_room : length (leaves (rest b j s)) ≤ length (leaves (tree_in b s))
@@ -135,29 +145,29 @@ leaf_size_more l m a e z n =
     let c : length m ≡ length l + 1 = ap length e ∙ length-append l (a ∷ []) in
     omega arith
 
-pub length_leaf : (v : Revision) (c : Content) → length v.hash ≡ hash_size → length (leaf_bytes (leaf_of v c)) ≡ leaf_size
+pub length_leaf : (a : LeafOf) → length a.rev.hash ≡ hash_size → length (leaf_bytes a) ≡ leaf_size
 unfolding leaf_bytes
-length_leaf v c h = simp (length-append, length-be) (omega arith)
+length_leaf a h = simp (length-append, length-be) (omega arith)
 
 -- the four runs that code writes for a leaf
-pub leaf_written : (s : List ℕ) (at : ℕ) (v : Revision) (c : Content) → length v.hash ≡ hash_size → at + leaf_size ≤ length s
-    → splice (set (splice (splice s at (be 4 v.number.0)) (at + hash_in) v.hash) (at + kind_in) (content_kind c)) (at + leaf_label_in) (be 8 (content_label c))
-    ≡ splice s at (leaf_bytes (leaf_of v c))
+pub leaf_written : (s : List ℕ) (at : ℕ) (a : LeafOf) → length a.rev.hash ≡ hash_size → at + leaf_size ≤ length s
+    → splice (set (splice (splice s at (be 4 a.rev.number.0)) (at + hash_in) a.rev.hash) (at + kind_in) (content_kind a.content)) (at + leaf_label_in) (be 8 (content_label a.content))
+    ≡ splice s at (leaf_bytes a)
 unfolding leaf_bytes
-leaf_written s at v c q room =
-    let N : List ℕ = be 4 v.number.0 in
-    let L : List ℕ = be 8 (content_label c) in
-    let K : List ℕ = content_kind c ∷ [] in
-    let n : length N ≡ 4 = length-be 4 v.number.0 in
-    let l : length L ≡ 8 = length-be 8 (content_label c) in
+leaf_written s at a q room =
+    let N : List ℕ = be 4 a.rev.number.0 in
+    let L : List ℕ = be 8 (content_label a.content) in
+    let K : List ℕ = content_kind a.content ∷ [] in
+    let n : length N ≡ 4 = length-be 4 a.rev.number.0 in
+    let l : length L ≡ 8 = length-be 8 (content_label a.content) in
     let s1 : List ℕ = splice s at N in
-    let s2 : List ℕ = splice s1 (at + hash_in) v.hash in
+    let s2 : List ℕ = splice s1 (at + hash_in) a.rev.hash in
     let n1 : length s1 ≡ length s = length-splice s at N (omega arith) in
-    let n2 : length s2 ≡ length s = length-splice s1 (at + hash_in) v.hash (omega arith) ∙ n1 in
+    let n2 : length s2 ≡ length s = length-splice s1 (at + hash_in) a.rev.hash (omega arith) ∙ n1 in
     ap (λ (x : List ℕ). splice x (at + leaf_label_in) L) (stores K s2 (at + kind_in) (omega arith))
     ∙ (chain s2 K L (at + kind_in) (at + leaf_label_in) (omega arith) (omega arith)
-    ∙ (chain s1 v.hash (K ++ L) (at + hash_in) (at + kind_in) (omega arith) (simp length-append (omega arith))
-    ∙ chain s N (v.hash ++ (K ++ L)) at (at + hash_in) (omega arith) (simp length-append (omega arith))))
+    ∙ (chain s1 a.rev.hash (K ++ L) (at + hash_in) (at + kind_in) (omega arith) (simp length-append (omega arith))
+    ∙ chain s N (a.rev.hash ++ (K ++ L)) at (at + hash_in) (omega arith) (simp length-append (omega arith))))
 
 -- ---- leaves that are written so far
 
@@ -176,10 +186,10 @@ written_none b s out =
       is = rw e (sym (splice_none out 0));
     }
 
-pub written_same : (l m : List LeafOf) (before : List ℕ) (at : ℕ) (after : List ℕ) → m ≡ l → Written l before at after → Written m before at after
+written_same : (l m : List LeafOf) (before : List ℕ) (at : ℕ) (after : List ℕ) → m ≡ l → Written l before at after → Written m before at after
 written_same l m before at after e w = rw e w
 
-pub written_more : (l m : List LeafOf) (a : LeafOf) (before : List ℕ) (at : ℕ) (mid after : List ℕ) → m ≡ l ++ (a ∷ []) → length (leaf_bytes a) ≡ leaf_size → at + leaf_size ≤ length before
+written_more : (l m : List LeafOf) (a : LeafOf) (before : List ℕ) (at : ℕ) (mid after : List ℕ) → m ≡ l ++ (a ∷ []) → length (leaf_bytes a) ≡ leaf_size → at + leaf_size ≤ length before
     → Written l before at mid → after ≡ splice mid at (leaf_bytes a) → Written m before (at + leaf_size) after
 written_more l m a before at mid after e z room w f = record {
   count = let c : length m ≡ length l + 1 = ap length e ∙ length-append l (a ∷ []) in let d = w.count in omega arith;
@@ -187,12 +197,31 @@ written_more l m a before at mid after e z room w f = record {
   is = f ∙ (ap (λ (x : List ℕ). splice x at (leaf_bytes a)) w.is ∙ leaf_behind before l m a at e (w.size ∙ sym w.count) (omega arith));
 }
 
--- there is room for the leaf in row j
-pub leaf_room : (b : Body) (i j : ℕ) (s out : List ℕ) (at : ℕ) (c : Content) (before : List ℕ) → i ≡ j + 1 → i ≤ b.rows → (row_at (row_start b j) s).kind ≡ Leaf c
-    → Written (leaves (rest b i s)) before at out → length (leaves (tree_in b s)) * leaf_size ≤ length out → at + leaf_size ≤ length out
-leaf_room b i j s out at c before e h k w room =
-    let most = rest_room b i j s e h in
-    let left = leaves (rest b i s) in
-    let more = ap length (rest_leaf b i j s e h c k) ∙ length-append left (leaf_of (row_at (row_start b j) s).rev c ∷ []) in
-    let count = w.count in
-    omega arith
+-- one row more, which was read, of the i from the front that are left
+module _ (b : Body) (i : ℕ) (s : List ℕ) {before : List ℕ} {at : ℕ} {mid : List ℕ} {r : Row} (some : 0 < i) (h : i ≤ b.rows) (read : r ≡ row_at (row_start b (i - 1)) s)
+    (w : Written (leaves (rest b i s)) before at mid) where
+  e : i ≡ (i - 1) + 1
+  e = omega arith
+
+  pub row_passed : r.content ≡ None → Written (leaves (rest b (i - 1) s)) before at mid
+  row_passed k = written_same _ _ _ _ _ (rest_inner b i (i - 1) s e h (rw read at k)) w
+
+  module _ {c : Content} (k : r.content ≡ Some c) where
+    kind_is : (row_at (row_start b (i - 1)) s).content ≡ Some c
+    kind_is = rw read at k
+
+    -- there is room for its leaf
+    pub leaf_room : length mid ≡ length before → length (leaves (tree_in b s)) * leaf_size ≤ length before → at + leaf_size ≤ length mid
+    leaf_room n room =
+        let most = rest_room b i (i - 1) s e h in
+        let left = leaves (rest b i s) in
+        let more = ap length (rest_leaf b i (i - 1) s e h c kind_is) ∙ length-append left (leaf_of (row_at (row_start b (i - 1)) s).rev c ∷ []) in
+        let count = w.count in
+        omega arith
+
+    pub leaf_put : {after : List ℕ} → length mid ≡ length before → at + leaf_size ≤ length mid → LeafPut mid at (leaf_of r.rev c) after
+        → Written (leaves (rest b (i - 1) s)) before (at + leaf_size) after
+    leaf_put {after} n room put =
+        let f : after ≡ splice mid at (leaf_bytes (leaf_of (row_at (row_start b (i - 1)) s).rev c)) = rw read at put.is in
+        let z : length (leaf_bytes (leaf_of (row_at (row_start b (i - 1)) s).rev c)) ≡ leaf_size = rw read at put.size in
+        written_more _ _ _ _ _ _ _ (rest_leaf b i (i - 1) s e h c kind_is) z (omega arith) w f

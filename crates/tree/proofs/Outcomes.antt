@@ -65,7 +65,7 @@ pub put_leaves_outcome : OneOutcome _ put-leaves.ps put-leaves.r put-leaves'.Ask
 put_leaves_outcome κs a x y s t h p q = (refl, fixed p.is q.is)
 
 pub winner_of_outcome : OneOutcome _ winner-of.ps winner-of.r winner-of'.Asked winner-of'.Learnt nothing
-winner_of_outcome κs a x y s t h p q = (fixed p.exact q.exact, refl)
+winner_of_outcome κs a x y s t h p q = (fixed p q, refl)
 
 pub path_count_outcome : OneOutcome _ path-count.ps path-count.r path-count'.Asked path-count'.Learnt nothing
 path_count_outcome κs a x y s t h p q = (fixed p.is q.is, refl)

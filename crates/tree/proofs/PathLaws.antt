@@ -1,17 +1,18 @@
 -- A path, step by step, among the rows before each step's own. Assumes nothing.
 use mathlib.Core.Path.{◌≡◌, refl, sym, ap, ◌∙◌}
-use mathlib.Core.Bool.{Bool, true, false, not}
+use Rattle.std.specs.declared.cmp.Ordering.TheVariants.{Less, Equal, Greater}
+use Rattle.std.specs.declared.cmp.Ordering.{Ordering}
+use Rattle.std.specs.Prelude.{Ok, Err}
+use mathlib.Core.Bool.{Bool, true, false}
 use mathlib.Core.List.{List, [], ◌∷◌}
-use mathlib.Core.Option.{Option, none, some}
+use Rattle.std.specs.Prelude.{Option, None, Some}
 use Prim.Native.Nat.{ℕ, zero, suc, pred, ◌+◌, ◌-◌, ◌*◌, ◌≤◌, ◌<◌}
 use native.Mathlib.Omega.{arith}
 use lib.Dec.{eqb}
 use lib.ListN.{length, get_or, take, drop, length-append}
-use Rattle.rules.specs.declared.Order.{Order}
-use Rattle.rules.specs.declared.Order.TheVariants.{Less, Equal, Greater}
 use Rattle.rules.specs.declared.Revision.{Revision}
 use Rattle.rules.specs.Bytes.{pieces, join}
-use Rattle.rules.specs.Choice.{maybe}
+use Rattle.rules.specs.Choice.{maybe, pick}
 use Rattle.rules.specs.Layout as layout
 use Rattle.rules.specs.Layout.{row_size, row_of}
 use Rattle.rules.specs.Map.{by_order, find}
@@ -25,7 +26,6 @@ use Rattle.octets.specs.Splice.{splice}
 use Rattle.octets.proofs.SpliceLaws.{chain, splice_none}
 use Rattle.tree.specs.declared.row.Row.{Row}
 use Rattle.tree.specs.declared.table.Body.{Body}
-use Rattle.tree.specs.declared.table.Found.TheVariants.{At, Gap}
 use Rattle.tree.specs.Rows.{parent_of, meaning, row_from, node_held, row_at, rev_at}
 use Rattle.tree.specs.Table.{tree_at, body, tree_in, row_start, place_of}
 use Rattle.tree.specs.Path.{path_above, HasParent, IsParent, HashesPut, PathPut}
@@ -40,15 +40,15 @@ pred_sub (suc x) = omega arith
 
 -- ---- parents in rows: "A parent's number is one lower."
 
-row_parent : (w : layout.Row) (p : Revision) → (node_held w).1.parent ≡ some p → p.number.0 ≡ pred w.rev.number.0
+row_parent : (w : layout.Row) (p : Revision) → (node_held w).1.parent ≡ Some p → p.number.0 ≡ pred w.rev.number.0
 unfolding node_held meaning row_from
-row_parent w p e = go (not (eqb w.flag 0)) e
+row_parent w p e = go (eqb w.flag 0) e
   where
-    go : (b : Bool) → parent_of w.rev b w.parent ≡ some p → p.number.0 ≡ pred w.rev.number.0
-    go true h = let q : revision (pred w.rev.number.0) w.parent ≡ p = cc in ap (λ (r : Revision). r.number.0) (sym q)
-    go false h = let z : ◌≡◌ {A = ℕ} 0 1 = cc in absurd (omega arith)
+    go : (b : Bool) → parent_of w.rev (pick b None (Some w.parent)) ≡ Some p → p.number.0 ≡ pred w.rev.number.0
+    go true h = let z : ◌≡◌ {A = ℕ} 0 1 = cc in absurd (omega arith)
+    go false h = let q : revision (pred w.rev.number.0) w.parent ≡ p = cc in ap (λ (r : Revision). r.number.0) (sym q)
 
-lower : (n : ℕ) (l : List ℕ) (v p : Revision) → parent_in (find order_rev v (tree_at 0 n l)) ≡ some p → p.number.0 ≡ pred v.number.0
+lower : (n : ℕ) (l : List ℕ) (v p : Revision) → parent_in (find order_rev v (tree_at 0 n l)) ≡ Some p → p.number.0 ≡ pred v.number.0
 unfolding tree_at pieces find node_held meaning row_from
 lower zero l v p e = let z : ◌≡◌ {A = ℕ} 0 1 = cc in absurd (omega arith)
 lower (suc n) l v p e = go (order_rev v w.rev) refl e (λ h. lower n (drop row_size l) v p h)
@@ -56,8 +56,8 @@ lower (suc n) l v p e = go (order_rev v w.rev) refl e (λ h. lower n (drop row_s
     w : layout.Row
     w = row_of (take row_size l)
 
-    go : (o : Order) → order_rev v w.rev ≡ o → parent_in (by_order o none (some (node_held w).1) (find order_rev v (tree_at 0 n (drop row_size l)))) ≡ some p
-        → (parent_in (find order_rev v (tree_at 0 n (drop row_size l))) ≡ some p → p.number.0 ≡ pred v.number.0) → p.number.0 ≡ pred v.number.0
+    go : (o : Ordering) → order_rev v w.rev ≡ o → parent_in (by_order o None (Some (node_held w).1) (find order_rev v (tree_at 0 n (drop row_size l)))) ≡ Some p
+        → (parent_in (find order_rev v (tree_at 0 n (drop row_size l))) ≡ Some p → p.number.0 ≡ pred v.number.0) → p.number.0 ≡ pred v.number.0
     go Less o h f = let z : ◌≡◌ {A = ℕ} 0 1 = cc in absurd (omega arith)
     go Equal o h f = rw (order_rev_same v w.rev o) (row_parent w p h)
     go Greater o h f = f h
@@ -72,7 +72,7 @@ find_front (suc i) (x ∷ t) v h o = rw (find_front i t v (omega arith) o)
 
 -- each parent that the tree knows has the number one lower
 abbrev Lower : Tree → Type 0
-Lower t = (v p : Revision) → parent_in (find order_rev v t) ≡ some p → p.number.0 ≡ pred v.number.0
+Lower t = (v p : Revision) → parent_in (find order_rev v t) ≡ Some p → p.number.0 ≡ pred v.number.0
 
 tree_lower : (base n : ℕ) (s : List ℕ) → Lower (tree_at base n s)
 unfolding tree_at
@@ -86,8 +86,8 @@ path_front t i low h (suc m) v e o = rw (find_front i t v h o) (go (parent_in (f
   where
     go : (q : Option Revision) → parent_in (find order_rev v t) ≡ q → ((p : Revision) → p.number.0 ≡ m → order_rev p (rev_in t i) ≡ Less → ancestry m (take i t) p ≡ ancestry m t p)
         → ◌≡◌ {A = List Hash} (v.hash ∷ maybe [] (ancestry m (take i t)) q) (v.hash ∷ maybe [] (ancestry m t) q)
-    go none k f = refl
-    go (some p) k f =
+    go None k f = refl
+    go (Some p) k f =
         let a : p.number.0 ≡ pred v.number.0 = low v p k in
         let b : p.number.0 ≡ m = a ∙ rw e refl in
         let c : p.number.0 < v.number.0 = omega arith in
@@ -99,7 +99,7 @@ module _ (b : Body) (s : List ℕ) (v : Revision) where
   abbrev t : Tree
   t = tree_in b s
 
-  pub found_within : (i : ℕ) → place_of 0 v t ≡ At i → i < b.rows
+  pub found_within : (i : ℕ) → place_of 0 v t ≡ Ok i → i < b.rows
   found_within i e = rw (length-tree b.base b.rows s) at (place_at i v t e).within
 
   pub path_zero : v.number.0 ≡ 0 → path_of t v ≡ []
@@ -118,10 +118,10 @@ module _ (b : Body) (s : List ℕ) (v : Revision) where
     pub path_some : 1 ≤ length (path_of t v)
     path_some = rw path_one (omega arith)
 
-    pub path_unknown : (i : ℕ) → place_of 0 v t ≡ Gap i → path_of t v ≡ v.hash ∷ []
+    pub path_unknown : (i : ℕ) → place_of 0 v t ≡ Err i → path_of t v ≡ v.hash ∷ []
     path_unknown i e = path_one ∙ rw (place_gap i v t e).found
 
-    module _ (i : ℕ) (e : place_of 0 v t ≡ At i) where
+    module _ (i : ℕ) (e : place_of 0 v t ≡ Ok i) where
       abbrev row : Row
       row = row_at (row_start b i) s
 
@@ -132,11 +132,11 @@ module _ (b : Body) (s : List ℕ) (v : Revision) where
       unfolding meaning
       row_is = sym (ap (λ (x : Revision × Node). x.0) node_is) ∙ (place_at i v t e).is
 
-      parent_is : parent_in (find order_rev v t) ≡ parent_of v row.known row.parent
+      parent_is : parent_in (find order_rev v t) ≡ parent_of v row.parent
       unfolding meaning
       parent_is =
           ap parent_in (place_at i v t e).found
-          ∙ (ap (λ (x : Revision × Node). x.1.parent) node_is ∙ ap (λ (u : Revision). parent_of u row.known row.parent) row_is)
+          ∙ (ap (λ (x : Revision × Node). x.1.parent) node_is ∙ ap (λ (u : Revision). parent_of u row.parent) row_is)
 
       pub found_rev : rev_at (row_start b i) s ≡ v
       unfolding rev_at
@@ -154,12 +154,12 @@ module _ (b : Body) (s : List ℕ) (v : Revision) where
 
       pub path_found : path_of t v ≡ v.hash ∷ path_above b.base i s
       unfolding path_above meaning
-      path_found = path_one ∙ rw (parent_is, sym (row_at_means (row_start b i) s), row_is) (go row.known)
+      path_found = path_one ∙ rw (parent_is, sym (row_at_means (row_start b i) s), row_is) (go row.parent)
         where
-          go : (k : Bool) → ◌≡◌ {A = List Hash} (v.hash ∷ maybe [] (ancestry (pred v.number.0) t) (parent_of v k row.parent))
-              (v.hash ∷ maybe [] (path_of (tree_at b.base i s)) (parent_of v k row.parent))
-          go false = refl
-          go true = rw (above row.parent)
+          go : (o : Option Hash) → ◌≡◌ {A = List Hash} (v.hash ∷ maybe [] (ancestry (pred v.number.0) t) (parent_of v o))
+              (v.hash ∷ maybe [] (path_of (tree_at b.base i s)) (parent_of v o))
+          go None = refl
+          go (Some h) = rw (above h)
 
 -- ---- the parent of a row that was read
 
@@ -167,42 +167,43 @@ module _ (base i : ℕ) (s : List ℕ) where
   abbrev child : Row
   child = row_at (base + i * row_size) s
 
-  above_is : path_above base i s ≡ maybe [] (path_of (tree_at base i s)) (parent_of child.rev child.known child.parent)
+  above_is : path_above base i s ≡ maybe [] (path_of (tree_at base i s)) (parent_of child.rev child.parent)
   unfolding path_above meaning
   above_is = rw (sym (row_at_means (base + i * row_size) s))
 
   above_low : child.rev.number.0 < 2 → path_above base i s ≡ []
-  above_low h = above_is ∙ go child.known
+  above_low h = above_is ∙ go child.parent
     where
-      go : (k : Bool) → maybe [] (path_of (tree_at base i s)) (parent_of child.rev k child.parent) ≡ []
-      go false = refl
-      go true = path_zero (body base i) s (revision (pred child.rev.number.0) child.parent) (rw (pred_sub child.rev.number.0) (omega arith))
+      go : (o : Option Hash) → maybe [] (path_of (tree_at base i s)) (parent_of child.rev o) ≡ []
+      go None = refl
+      go (Some p) = path_zero (body base i) s (revision (pred child.rev.number.0) p) (rw (pred_sub child.rev.number.0) (omega arith))
 
   child_rev : rev_at (base + i * row_size) s ≡ child.rev
   unfolding rev_at meaning
   child_rev = sym (ap (λ (x : Revision × Node). x.0) (row_at_means (base + i * row_size) s))
 
-  pub no_parent : (r : Row) → r ≡ child → r.rev.number.0 < 2 → IsParent base i s (record { known = false; rev = r.rev })
-  no_parent r e h = record { nobody = λ k. above_low (rw (sym e) h); found = λ k. absurd (let z : ◌≡◌ {A = ℕ} 0 1 = cc in omega arith) }
+  module _ (r : Row) (e : r ≡ child) where
+    pub first_row : r.rev.number.0 < 2 → IsParent base i s None
+    first_row h = above_low (rw (sym e) h)
 
-  pub its_parent : (r : Row) → r ≡ child → 2 ≤ r.rev.number.0 → IsParent base i s (record { known = r.known; rev = revision (r.rev.number.0 - 1) r.parent })
-  its_parent r e h = record {
-    nobody = λ k. above_is ∙ rw (sym e, k);
-    found = λ k. record {
+    pub no_parent : r.parent ≡ None → IsParent base i s None
+    no_parent k = above_is ∙ rw (sym e, k)
+
+    pub its_parent : {h : Hash} → 2 ≤ r.rev.number.0 → r.parent ≡ Some h → IsParent base i s (Some (revision (r.rev.number.0 - 1) h))
+    its_parent h k = record {
       is = above_is ∙ rw (sym e, k, pred_sub r.rev.number.0);
       some = omega arith;
       lower = rw (child_rev, sym e) (omega arith);
-    };
-  }
+    }
 
   module _ (v : Revision) (h : HasParent base i s v) where
     pub above_some : 1 ≤ length (path_above base i s)
     above_some = rw h.is (path_some (body base i) s v h.some)
 
-    pub above_gap : (g : ℕ) → place_of 0 v (tree_at base i s) ≡ Gap g → path_above base i s ≡ v.hash ∷ []
+    pub above_gap : (g : ℕ) → place_of 0 v (tree_at base i s) ≡ Err g → path_above base i s ≡ v.hash ∷ []
     above_gap g e = h.is ∙ path_unknown (body base i) s v h.some g e
 
-    module _ (j : ℕ) (e : place_of 0 v (tree_at base i s) ≡ At j) where
+    module _ (j : ℕ) (e : place_of 0 v (tree_at base i s) ≡ Ok j) where
       pub above_found : path_above base i s ≡ v.hash ∷ path_above base j s
       above_found = h.is ∙ path_found (body base i) s v h.some j e
 

@@ -1,31 +1,33 @@
 -- A row's bytes are read back, and how code writes and compares them. Assumes nothing.
 use mathlib.Core.Path.{◌≡◌, refl, ap, ap₂, ◌∙◌}
-use mathlib.Core.Bool.{Bool, true, false, not}
+use Rattle.std.specs.declared.cmp.Ordering.{Ordering}
+use Rattle.std.specs.declared.cmp.Ordering.TheVariants.{Less, Equal, Greater}
+use Rattle.std.specs.Ordering.{nat_cmp, MatchOrdering}
+use Rattle.std.specs.Cmp.{nat_cmp_is}
 use mathlib.Core.List.{List, [], ◌∷◌, ◌++◌}
-use mathlib.Core.Option.{Option, none, some}
+use Rattle.std.specs.Option.{unwrap_or}
+use Rattle.std.specs.Prelude.{Option, None, Some}
 use Prim.Native.Nat.{ℕ, pred, ◌+◌, ◌-◌, ◌≤◌, ◌<◌}
 use native.Mathlib.Omega.{arith}
 use lib.Dec.{eqb}
-use lib.ListN.{length, get_or, set, length-append}
+use lib.ListN.{length, get_or, set, replicate, length-append}
 use Rattle.rules.specs.declared.Content.{Content}
 use Rattle.rules.specs.declared.Content.TheVariants.{Live, Deleted}
 use Rattle.rules.specs.declared.Revision.{Revision}
 use Rattle.rules.specs.Bytes.{be, value, part}
 use Rattle.rules.specs.Layout as layout
 use Rattle.rules.specs.Layout.{hash_in, kind_in, known_in, row_zero_in, parent_hash_in, label_in, row_size, row_of}
-use Rattle.rules.specs.Order.{order_bytes, order_rev}
-use Rattle.rules.specs.declared.Order.TheVariants.{Less, Greater}
-use Rattle.rules.specs.Replica.{Node}
+use Rattle.rules.specs.Order.{order_n, and_then, order_bytes, order_rev}
+use Rattle.rules.specs.Choice.{pick}
+use Rattle.rules.specs.Replica.{Hash, Node}
 use Rattle.rules.specs.Room.{hash_size, labels}
 use Rattle.rules.proofs.ByteLaws.{length-be, value_be, part-front, part_whole, part-past, part-part, get_d_past}
-use Rattle.rules.proofs.OrderLaws.{less_order_n}
+use Rattle.rules.proofs.OrderLaws.{less_order_n, order_n_less, order_n_same, order_n_turn}
 use Rattle.octets.specs.Splice.{splice}
 use Rattle.octets.proofs.ByteOrderLaws.{greater_order_n, equal_order_n}
 use Rattle.octets.proofs.SpliceLaws.{length-splice, chain, five, stores}
-use Rattle.tree.specs.declared.row.Kind.{Kind}
-use Rattle.tree.specs.declared.row.Kind.TheVariants.{Inner, Leaf}
-use Rattle.tree.specs.Rows.{content_of, parent_of, meaning, kind_from, row_from, node_held, row_at, node_at, rev_at}
-use Rattle.tree.specs.Rows.{kind_byte, label_held, known_byte, parent_held, stored_row, FitsParent, FitsContent, FitsRow, IsParentHash}
+use Rattle.tree.specs.Rows.{parent_of, meaning, kind_from, row_from, node_held, row_at, node_at, rev_at}
+use Rattle.tree.specs.Rows.{kind_byte, label_held, known_byte, parent_held, stored_row, FitsParent, FitsContent, FitsRow}
 
 pub row_at_means : (at : ℕ) (s : List ℕ) → meaning (row_at at s) ≡ node_at at s
 unfolding row_at node_at node_held
@@ -34,8 +36,8 @@ row_at_means at s = refl
 -- ---- a row's bytes
 
 length-parent : (v : Revision) (p : Option Revision) → FitsParent v p → length (parent_held p) ≡ hash_size
-length-parent v none h = refl
-length-parent v (some p) h = h.1
+length-parent v None h = refl
+length-parent v (Some p) h = h.1
 
 pub length_row : (v : Revision × Node) → FitsRow v → length (stored_row v) ≡ row_size
 unfolding stored_row
@@ -44,22 +46,22 @@ length_row v h =
     simp (length-append, length-be) (omega (arith, h.hash))
 
 parent_back : (v : Revision) (p : Option Revision) (w : layout.Row) → FitsParent v p → w.rev ≡ v → w.flag ≡ known_byte p → w.parent ≡ parent_held p
-    → parent_of w.rev (not (eqb w.flag 0)) w.parent ≡ p
-parent_back v none w h r f e = rw f
-parent_back v (some p) w h r f e =
+    → parent_of w.rev (pick (eqb w.flag 0) None (Some w.parent)) ≡ p
+parent_back v None w h r f e = rw f
+parent_back v (Some p) w h r f e =
     let n : pred w.rev.number.0 ≡ p.number.0 = rw (r, h.0) in
-    rw f (λ i. some (record { number = record { 0 = n i }; hash = e i }))
+    rw f (λ i. Some (record { number = record { 0 = n i }; hash = e i }))
 
 label_small : (c : Option Content) → FitsContent c → label_held c < labels
-label_small none h = omega arith
-label_small (some (Live n)) h = h
-label_small (some Deleted) h = omega arith
+label_small None h = omega arith
+label_small (Some (Live n)) h = h
+label_small (Some Deleted) h = omega arith
 
-content_back : (c : Option Content) → content_of (kind_from (kind_byte c) (label_held c)) ≡ c
+content_back : (c : Option Content) → (kind_from (kind_byte c) (label_held c)) ≡ c
 unfolding kind_from
-content_back none = refl
-content_back (some (Live n)) = refl
-content_back (some Deleted) = refl
+content_back None = refl
+content_back (Some (Live n)) = refl
+content_back (Some Deleted) = refl
 
 -- where the parent's hash and the label begin, counted from the kind on
 abbrev parent_after : ℕ
@@ -118,18 +120,27 @@ unfolding node_held meaning row_from
 row_back v h =
     let f = row_fields v h in
     let p = parent_back v.0 v.1.parent (row_of (stored_row v)) h.parent f.rev f.flag f.parent in
-    let c = ap₂ (λ (k l : ℕ). content_of (kind_from k l)) f.kind f.label ∙ content_back v.1.content in
+    let c = ap₂ (λ (k l : ℕ). (kind_from k l)) f.kind f.label ∙ content_back v.1.content in
     λ i. (f.rev i, record { parent = p i; content = c i })
 
 -- a row that was put together from its fields fits
-pub parent_fits : (v : Revision) (known : Bool) (h r : List ℕ) → IsParentHash v known h r → FitsParent v (parent_of v known h)
-parent_fits v true h r p = (refl, rw p.is at p.size)
-parent_fits v false h r p = tt
+pub parent_fits : (v : Revision) (o : Option Hash) → length (unwrap_or o (replicate hash_size 0)) ≡ hash_size → FitsParent v (parent_of v o)
+parent_fits v None h = tt
+parent_fits v (Some p) h = (refl, h)
 
-pub content_fits : (k : Kind) → label_held (content_of k) < labels → FitsContent (content_of k)
-content_fits Inner h = tt
-content_fits (Leaf (Live n)) h = h
-content_fits (Leaf Deleted) h = tt
+-- what is stored for a parent
+pub parent_stored : (v : Revision) (o : Option Hash) → unwrap_or o (replicate hash_size 0) ≡ parent_held (parent_of v o)
+parent_stored v None = refl
+parent_stored v (Some p) = refl
+
+pub known_stored : (v : Revision) (o : Option Hash) → known_byte o ≡ known_byte (parent_of v o)
+known_stored v None = refl
+known_stored v (Some p) = refl
+
+pub content_fits : (k : Option Content) → label_held k < labels → FitsContent k
+content_fits None h = tt
+content_fits (Some (Live n)) h = h
+content_fits (Some Deleted) h = tt
 
 -- the marks that code writes for a row: kind, flag and zeros
 pub marks_written : (s : List ℕ) (at k f : ℕ) → at + row_size ≤ length s
@@ -169,6 +180,15 @@ module _ (s : List ℕ) (at : ℕ) (v : Revision × Node) where
 
 -- ---- the order
 
+-- numbers are ordered as the library orders them
+pub order_n_cmp : (a b : ℕ) → order_n a b ≡ nat_cmp a b
+order_n_cmp a b = nat_cmp_is a b (order_n a b) (go (order_n a b) refl)
+  where
+    go : (o : Ordering) → order_n a b ≡ o → MatchOrdering o (a < b) (a ≡ b) (b < a)
+    go Less e = order_n_less a b e
+    go Equal e = order_n_same a b e
+    go Greater e = order_n_less b a (order_n_turn a b e)
+
 module _ (a b : Revision) where
   pub rev_less : a.number.0 < b.number.0 → order_rev a b ≡ Less
   unfolding order_rev
@@ -178,9 +198,19 @@ module _ (a b : Revision) where
   unfolding order_rev
   rev_greater h = rw (greater_order_n a.number.0 b.number.0 h)
 
+  -- where the numbers are level the hashes decide, else the numbers
   pub rev_level : a.number.0 ≡ b.number.0 → order_rev a b ≡ order_bytes a.hash b.hash
   unfolding order_rev
   rev_level h = rw (equal_order_n a.number.0 b.number.0 h)
+
+  pub rev_apart : (order_n a.number.0 b.number.0 ≡ Equal → ⊥) → order_rev a b ≡ order_n a.number.0 b.number.0
+  unfolding order_rev
+  rev_apart n = go (order_n a.number.0 b.number.0) n
+    where
+      go : (o : Ordering) → (o ≡ Equal → ⊥) → and_then o (order_bytes a.hash b.hash) ≡ o
+      go Less m = refl
+      go Equal m = absurd (m refl)
+      go Greater m = refl
 
 -- the revision at a place, in the bytes there
 module _ (at : ℕ) (s : List ℕ) where

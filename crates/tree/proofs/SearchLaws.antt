@@ -1,12 +1,13 @@
 -- Searching an ascending tree by halves and from its end. Assumes nothing.
 use mathlib.Core.Path.{◌≡◌, refl, sym, ap, ◌∙◌}
+use Rattle.std.specs.declared.cmp.Ordering.TheVariants.{Less, Equal, Greater}
+use Rattle.std.specs.Prelude.{Ok, Err}
 use mathlib.Core.List.{List, [], ◌∷◌, ◌++◌}
 use mathlib.Core.Logic.{⊎_elim}
 use Prim.Native.Nat.{ℕ, zero, suc, ◌+◌, ◌-◌, ◌*◌, ◌≤◌, ◌<◌, suc-le-suc}
 use native.Mathlib.Nat.{not-suc-le-zero, le_of_suc-le-suc, zero-add, suc-add, add-suc, add-zero, eq-or-lt_of_le}
 use native.Mathlib.Omega.{arith}
 use lib.ListN.{length, get_or, take}
-use Rattle.rules.specs.declared.Order.TheVariants.{Less, Equal, Greater}
 use Rattle.rules.specs.declared.Revision.{Revision}
 use Rattle.rules.specs.Bytes.{pieces}
 use Rattle.rules.specs.Layout.{row_size}
@@ -15,7 +16,6 @@ use Rattle.rules.specs.Order.{order_rev}
 use Rattle.rules.specs.Replica.{Node, Tree}
 use Rattle.rules.proofs.OrderLaws.{rev_order, order_rev_same, turn_less}
 use Rattle.tree.specs.declared.table.Body.{Body}
-use Rattle.tree.specs.declared.table.Found.TheVariants.{At, Gap}
 use Rattle.tree.specs.Rows.{node_at, rev_at}
 use Rattle.tree.specs.Table.{tree_at, body, tree_in, row_start, place, place_of, Searchable}
 use Rattle.tree.proofs.TableLaws.{no_row, length-tree, tree_row, tree_take, tree_last}
@@ -60,14 +60,14 @@ Under t v j = (k : ℕ) → k < j → order_rev v (rev_in t k) ≡ Greater
 pub Over : Tree → Revision → ℕ → Type 0
 Over t v j = (k : ℕ) → j ≤ k → k < length t → order_rev v (rev_in t k) ≡ Less
 
-found_at : (m : ℕ) (v : Revision) (t : Tree) (j : ℕ) → Under t v j → j < length t → order_rev v (rev_in t j) ≡ Equal → place_of m v t ≡ At (m + j)
+found_at : (m : ℕ) (v : Revision) (t : Tree) (j : ℕ) → Under t v j → j < length t → order_rev v (rev_in t j) ≡ Equal → place_of m v t ≡ Ok (m + j)
 unfolding place Under
 found_at m v [] j b l e = absurd (not-suc-le-zero l)
 found_at m v (x ∷ t) zero b l e = rw (e, add-zero m)
 found_at m v (x ∷ t) (suc j) b l e =
     rw (b 0 (omega arith)) (found_at (suc m) v t j (λ k h. b (suc k) (suc-le-suc h)) (le_of_suc-le-suc l) e ∙ rw (suc-add m j, add-suc m j))
 
-found_gap : (m : ℕ) (v : Revision) (t : Tree) (j : ℕ) → j ≤ length t → Under t v j → Over t v j → place_of m v t ≡ Gap (m + j)
+found_gap : (m : ℕ) (v : Revision) (t : Tree) (j : ℕ) → j ≤ length t → Under t v j → Over t v j → place_of m v t ≡ Err (m + j)
 unfolding place Under Over
 found_gap m v [] zero l b a = rw (add-zero m)
 found_gap m v [] (suc j) l b a = absurd (not-suc-le-zero l)
@@ -75,7 +75,7 @@ found_gap m v (x ∷ t) zero l b a = rw (a 0 (omega arith) (omega arith), add-ze
 found_gap m v (x ∷ t) (suc j) l b a =
     rw (b 0 (omega arith)) (found_gap (suc m) v t j (le_of_suc-le-suc l) (λ k h. b (suc k) (suc-le-suc h)) (λ k h r. a (suc k) (suc-le-suc h) (suc-le-suc r)) ∙ rw (suc-add m j, add-suc m j))
 
-pub gap_between : (v : Revision) (t : Tree) (j : ℕ) → j ≤ length t → Under t v j → Over t v j → place_of 0 v t ≡ Gap j
+pub gap_between : (v : Revision) (t : Tree) (j : ℕ) → j ≤ length t → Under t v j → Over t v j → place_of 0 v t ≡ Err j
 gap_between v t j l b a = found_gap 0 v t j l b a ∙ rw (zero-add j)
 
 pub under_none : (t : Tree) (v : Revision) → Under t v 0
@@ -87,7 +87,7 @@ unfolding Over
 over_none t v n e k h l = absurd (omega arith)
 
 module _ (t : Tree) (v : Revision) (j : ℕ) (a : Ascending order_rev t) (l : j < length t) where
-  pub found_here : order_rev v (rev_in t j) ≡ Equal → place_of 0 v t ≡ At j
+  pub found_here : order_rev v (rev_in t j) ≡ Equal → place_of 0 v t ≡ Ok j
   unfolding Under
   found_here e =
       let q : v ≡ rev_in t j = order_rev_same v (rev_in t j) e in
@@ -117,7 +117,7 @@ module _ (b : Body) (v : Revision) (s : List ℕ) (able : Searchable b s) (j : �
   row_is : rev_in (tree_in b s) j ≡ beside
   row_is = rev_in_lem b.base b.rows j s l
 
-  pub found_row : order_rev v beside ≡ Equal → place_of 0 v (tree_in b s) ≡ At j
+  pub found_row : order_rev v beside ≡ Equal → place_of 0 v (tree_in b s) ≡ Ok j
   found_row o = found_here (tree_in b s) v j able.ascending in_tree (rw row_is o)
 
   pub under_row : order_rev v beside ≡ Greater → Under (tree_in b s) v (j + 1)
@@ -141,7 +141,7 @@ search_part b i s able h = record {
   ascending = rw (tree_take b.base i b.rows s h) at (ascending_take i (tree_in b s) able.ascending);
 }
 
-pub place_none : (base n : ℕ) (v : Revision) (s : List ℕ) → n ≡ 0 → place_of 0 v (tree_at base n s) ≡ Gap 0
+pub place_none : (base n : ℕ) (v : Revision) (s : List ℕ) → n ≡ 0 → place_of 0 v (tree_at base n s) ≡ Err 0
 unfolding place tree_at pieces
 place_none base n v s e = rw e
 
@@ -165,10 +165,10 @@ module _ (b : Body) (v : Revision) (s : List ℕ) (able : Searchable b s) (some_
       let c : t ≡ tree_at b.base end s ++ (node_at (row_start b end) s ∷ []) = rw e at (tree_last b.base end s) in
       rw c (sym (place_last 0 v (tree_at b.base end s) (node_at (row_start b end) s) o))
 
-  pub at_last : order_rev v beyond ≡ Equal → place_of 0 v t ≡ At end
+  pub at_last : order_rev v beyond ≡ Equal → place_of 0 v t ≡ Ok end
   at_last o = found_row b v s able end (omega arith) o
 
-  pub past_last : order_rev v beyond ≡ Greater → place_of 0 v t ≡ Gap b.rows
+  pub past_last : order_rev v beyond ≡ Greater → place_of 0 v t ≡ Err b.rows
   past_last o =
       let e : end + 1 ≡ b.rows = omega arith in
       let l = length-tree b.base b.rows s in

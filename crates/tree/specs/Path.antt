@@ -1,5 +1,5 @@
 -- A path in bytes.
-use Rattle.std.specs.Prelude.{◌≡◌, true, false, List, [], ℕ, ◌+◌, ◌*◌, ◌≤◌, ◌<◌, length}
+use Rattle.std.specs.Prelude.{◌≡◌, Option, None, Some, List, [], ℕ, ◌+◌, ◌*◌, ◌≤◌, ◌<◌, length}
 use Rattle.rules.specs.declared.Revision.{Revision}
 use Rattle.rules.specs.Bytes.{join}
 use Rattle.rules.specs.Choice.{maybe}
@@ -8,7 +8,6 @@ use Rattle.rules.specs.Read.{path_of}
 use Rattle.rules.specs.Replica.{Hash, Tree}
 use Rattle.rules.specs.Room.{hash_size}
 use Rattle.octets.specs.Splice.{splice}
-use Rattle.tree.specs.declared.path.Parent.{Parent}
 use Rattle.tree.specs.declared.table.Body.{Body}
 use Rattle.tree.specs.Rows.{node_at, rev_at}
 use Rattle.tree.specs.Table.{tree_at, body, tree_in, Searchable}
@@ -25,9 +24,9 @@ pub record HasParent (base i : ℕ) (s : List ℕ) (v : Revision) : Type 0 where
   pub some : 0 < v.number.0
   pub lower : v.number.0 + 1 ≡ (rev_at (base + i * row_size) s).number.0
 
-pub record IsParent (base i : ℕ) (s : List ℕ) (r : Parent) : Type 0 where
-  pub nobody : r.known ≡ false → path_above base i s ≡ []
-  pub found : r.known ≡ true → HasParent base i s r.rev
+abbrev pub IsParent : ℕ → ℕ → List ℕ → Option Revision → Type 0
+IsParent base i s None = path_above base i s ≡ []
+IsParent base i s (Some v) = HasParent base i s v
 
 -- ---- how many
 

@@ -1,6 +1,6 @@
 -- One row of storage: its value in code, what it means, and its bytes. `Layout` says where each field stands.
-use Rattle.std.specs.Prelude.{◌≡◌, Bool, not, List, ◌∷◌, ◌++◌, ℕ, pred, ◌<◌, eqb, length, replicate}
-use Rattle.std.proofs.Math.Option.{Option, none, some}
+use Rattle.std.specs.Prelude.{◌≡◌, List, ◌∷◌, ◌++◌, ℕ, pred, ◌<◌, eqb, length, replicate}
+use Rattle.std.specs.Prelude.{Option, None, Some}
 use Rattle.rules.specs.declared.Content.{Content}
 use Rattle.rules.specs.declared.Content.TheVariants.{Live, Deleted}
 use Rattle.rules.specs.declared.Revision.{Revision}
@@ -12,31 +12,25 @@ use Rattle.rules.specs.Replica.{Hash, revision, Node, IsContent}
 use Rattle.rules.specs.Room.{hash_size}
 use Rattle.octets.specs.Splice.{splice}
 use Rattle.layout.specs.Fields.{four_bytes}
-use Rattle.tree.specs.declared.row.Kind.{Kind}
-use Rattle.tree.specs.declared.row.Kind.TheVariants.{Inner, Leaf}
 use Rattle.tree.specs.declared.row.Row.{Row}
 
 -- ---- what a row means: a revision, and what is known of it
 
-abbrev pub content_of : Kind → Option Content
-content_of Inner = none
-content_of (Leaf c) = some c
-
 -- "A parent's number is one lower."
-abbrev pub parent_of : Revision → Bool → Hash → Option Revision
-parent_of v known h = pick known (some (revision (pred v.number.0) h)) none
+abbrev pub parent_of : Revision → Option Hash → Option Revision
+parent_of v o = maybe None (λ h. Some (revision (pred v.number.0) h)) o
 
 unfoldable pub meaning : Row → Revision × Node
-meaning r = (r.rev, record { parent = parent_of r.rev r.known r.parent; content = content_of r.kind })
+meaning r = (r.rev, record { parent = parent_of r.rev r.parent; content = r.content })
 
 -- ---- a row is read: the value of its fields, and what they mean
 
 -- 0 has a child, 1 is live with its label, any other is deleted
-unfoldable pub kind_from : ℕ → ℕ → Kind
-kind_from k label = pick (eqb k 0) Inner (Leaf (pick (eqb k 1) (Live label) Deleted))
+unfoldable pub kind_from : ℕ → ℕ → Option Content
+kind_from k label = pick (eqb k 0) None (Some (pick (eqb k 1) (Live label) Deleted))
 
 unfoldable pub row_from : layout.Row → Row
-row_from w = record { rev = w.rev; known = not (eqb w.flag 0); parent = w.parent; kind = kind_from w.kind w.label }
+row_from w = record { rev = w.rev; parent = pick (eqb w.flag 0) None (Some w.parent); content = kind_from w.kind w.label }
 
 unfoldable pub node_held : layout.Row → Revision × Node
 node_held w = meaning (row_from w)
@@ -59,7 +53,7 @@ kind_byte o = maybe 0 (λ c. content_kind c) o
 abbrev pub label_held : Option Content → ℕ
 label_held o = maybe 0 (λ c. content_label c) o
 
-abbrev pub known_byte : Option Revision → ℕ
+abbrev pub known_byte : {A : Type 0} → Option A → ℕ
 known_byte o = maybe 0 (λ p. 1) o
 
 -- zeros where the parent is not known
@@ -78,12 +72,12 @@ stored_row v =
 -- ---- what can be read back from a row's bytes
 
 abbrev pub FitsParent : Revision → Option Revision → Type 0
-FitsParent v none = Unit {0}
-FitsParent v (some p) = (p.number.0 ≡ pred v.number.0) × (length p.hash ≡ hash_size)
+FitsParent v None = Unit {0}
+FitsParent v (Some p) = (p.number.0 ≡ pred v.number.0) × (length p.hash ≡ hash_size)
 
 abbrev pub FitsContent : Option Content → Type 0
-FitsContent none = Unit {0}
-FitsContent (some c) = IsContent c
+FitsContent None = Unit {0}
+FitsContent (Some c) = IsContent c
 
 pub record FitsRow (v : Revision × Node) : Type 0 where
   pub number : v.0.number.0 < four_bytes
@@ -97,8 +91,3 @@ pub record FitsRow (v : Revision × Node) : Type 0 where
 pub record RowPut (before : List ℕ) (at : ℕ) (row : Row) (after : List ℕ) : Type 0 where
   pub is : after ≡ splice before at (stored_row (meaning row))
   pub fits : FitsRow (meaning row)
-
--- the hash that is stored for a parent
-pub record IsParentHash (v : Revision) (known : Bool) (h r : Hash) : Type 0 where
-  pub is : r ≡ parent_held (parent_of v known h)
-  pub size : length r ≡ hash_size

@@ -1,6 +1,7 @@
 -- A tree as rows in a slice: where a revision is, and what a change leaves.
 use Rattle.std.specs.Prelude.{◌≡◌, List, [], ◌∷◌, ◌++◌, map, ℕ, suc, ◌+◌, ◌-◌, ◌*◌, ◌≤◌, length, take, drop}
-use Rattle.rules.specs.declared.Order.{Order}
+use Rattle.std.specs.declared.cmp.Ordering.{Ordering}
+use Rattle.std.specs.Prelude.{Result, Ok, Err}
 use Rattle.rules.specs.declared.Revision.{Revision}
 use Rattle.rules.specs.Bytes.{part, pieces}
 use Rattle.rules.specs.Layout.{row_size, row_of}
@@ -10,8 +11,6 @@ use Rattle.rules.specs.Replica.{Node, Tree}
 use Rattle.octets.specs.Splice.{splice}
 use Rattle.tree.specs.declared.row.Row.{Row}
 use Rattle.tree.specs.declared.table.Body.{Body}
-use Rattle.tree.specs.declared.table.Found.{Found}
-use Rattle.tree.specs.declared.table.Found.TheVariants.{At, Gap}
 use Rattle.tree.specs.Rows.{meaning, node_held, stored_row, FitsRow}
 
 -- ---- a body of rows
@@ -38,12 +37,12 @@ Within b s = row_start b b.rows ≤ length s
 -- ---- searching
 
 -- the first key that is not below k, counted from n: it, or the gap before it
-unfoldable pub place : {K A : Type 0} → (K → K → Order) → ℕ → K → Map K A → Found
-place order n k [] = Gap n
-place order n k (x ∷ xs) = by_order (order k x.0) (Gap n) (At n) (place order (suc n) k xs)
+unfoldable pub place : {K A : Type 0} → (K → K → Ordering) → ℕ → K → Map K A → Result ℕ ℕ
+place order n k [] = Err n
+place order n k (x ∷ xs) = by_order (order k x.0) (Err n) (Ok n) (place order (suc n) k xs)
 
 -- of a tree's revisions
-abbrev pub place_of : ℕ → Revision → Tree → Found
+abbrev pub place_of : ℕ → Revision → Tree → Result ℕ ℕ
 place_of n v t = place order_rev n v t
 
 pub record Searchable (b : Body) (s : List ℕ) : Type 0 where

@@ -4,38 +4,26 @@ ghost use Rattle.rules.specs.Layout.{row_size};
 ghost use Rattle.tree.specs.Table.{body, tree_in, row_start, Searchable};
 ghost use Rattle.tree.specs.Path.{path_above, IsParent, IsAboveCount, IsPathCount, CanPutAbove, HashesPut, CanPutPath, PathPut};
 
-use crate::table::{Body, Found, find, row_at};
+use crate::table::{Body, find, row_at};
 use octets::run::put_hash;
 use rules::{HASH, RevNumber, Revision};
 
-// A row's parent, if one is known whose path is not empty.
-#[derive(Clone, Copy)]
-struct Parent {
-    known: bool,
-    rev: Revision,
-}
-
-// The parent of row i. The walks ask by the row's place and not by its revision, so that no level of theirs
-// keeps a revision besides the one that it looks for.
-fn parent_of(s: &[u8], base: usize, i: usize) -> Parent
+// The parent of row i, if one is known whose path is not empty. The walks ask by the row's place and not by
+// its revision, so that no level of theirs keeps a revision besides the one that it looks for.
+fn parent_of(s: &[u8], base: usize, i: usize) -> Option<Revision>
     requires { row_start (body base i) i + row_size ≤ length s.now }
     ensures { IsParent base i s.now result }
 {
     let row = row_at(s, Body { base, rows: i }, i);
-    let rev = row.rev;
-    let number = rev.number;
-    let x = number.0;
-    if x < 2 {
-        return Parent { known: false, rev };
+    let number = row.rev.number.0;
+    if number < 2 {
+        return None;
     }
-    let hash = row.parent;
-    Parent {
-        known: row.known,
-        rev: Revision {
-            number: RevNumber(x - 1),
-            hash,
-        },
-    }
+    let hash = row.parent?;
+    Some(Revision {
+        number: RevNumber(number - 1),
+        hash,
+    })
 }
 
 // How many revisions the path of row i's parent has. The row's number falls by one at each call, and since a
@@ -44,12 +32,10 @@ fn count_above(s: &[u8], base: usize, i: usize) -> usize
     requires { Searchable (body base (i + 1)) s.now }
     ensures { IsAboveCount base i s.now result }
 {
-    let parent = parent_of(s, base, i);
-    if !parent.known {
+    let Some(parent) = parent_of(s, base, i) else {
         return 0;
-    }
-    let rev = parent.rev;
-    let Found::At(j) = find(s, Body { base, rows: i }, rev) else {
+    };
+    let Ok(j) = find(s, Body { base, rows: i }, parent) else {
         return 1;
     };
     1 + count_above(s, base, j)
@@ -60,11 +46,10 @@ pub fn path_count(s: &[u8], body: Body, rev: Revision) -> usize
     requires { Searchable body s.now }
     ensures { IsPathCount body s.now rev result }
 {
-    let number = rev.number;
-    if number.0 == 0 {
+    if rev.number.0 == 0 {
         return 0;
     }
-    let Found::At(i) = find(s, body, rev) else {
+    let Ok(i) = find(s, body, rev) else {
         return 1;
     };
     1 + count_above(s, body.base, i)
@@ -75,15 +60,12 @@ fn put_above(s: &[u8], base: usize, i: usize, out: &mut [u8], at: usize) -> usiz
     requires { CanPutAbove base i s.now out.old at }
     ensures { HashesPut (path_above base i s.now) at out.old result out.new }
 {
-    let parent = parent_of(s, base, i);
-    if !parent.known {
+    let Some(parent) = parent_of(s, base, i) else {
         return at;
-    }
-    let rev = parent.rev;
-    let hash = rev.hash;
-    put_hash(out, at, hash);
+    };
+    put_hash(out, at, parent.hash);
     let next = at + HASH;
-    let Found::At(j) = find(s, Body { base, rows: i }, rev) else {
+    let Ok(j) = find(s, Body { base, rows: i }, parent) else {
         return next;
     };
     put_above(s, base, j, out, next)
@@ -94,14 +76,12 @@ pub fn put_path(s: &[u8], body: Body, rev: Revision, out: &mut [u8], at: usize) 
     requires { CanPutPath body s.now rev out.old at }
     ensures { PathPut (tree_in body s.now) rev at out.old result out.new }
 {
-    let number = rev.number;
-    if number.0 == 0 {
+    if rev.number.0 == 0 {
         return at;
     }
-    let own = rev.hash;
-    put_hash(out, at, own);
+    put_hash(out, at, rev.hash);
     let next = at + HASH;
-    let Found::At(i) = find(s, body, rev) else {
+    let Ok(i) = find(s, body, rev) else {
         return next;
     };
     put_above(s, body.base, i, out, next)

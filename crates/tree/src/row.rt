@@ -6,40 +6,31 @@ ghost use Rattle.rules.specs.Order.{order_rev};
 ghost use Rattle.rules.specs.Read.{content_kind, content_label};
 ghost use Rattle.rules.specs.Replica.{revision};
 ghost use Rattle.octets.specs.Splice.{splice};
-ghost use Rattle.tree.specs.Rows.{kind_from, content_of, parent_of, kind_byte, label_held, known_byte, row_at, rev_at, RowPut, IsParentHash};
+ghost use Rattle.tree.specs.Rows.{kind_from, kind_byte, label_held, known_byte, row_at, rev_at, RowPut};
 
 use layout::{HASH_IN, KIND_IN, KNOWN_IN, LABEL_IN, PARENT_HASH_IN, ROW_ZERO_IN};
 use octets::number::{put2, put4, put8};
 use octets::order::order_hash_at;
 use octets::run::put_hash;
-use rules::{Content, HASH, Order, RevNumber, Revision};
+use rules::{Content, HASH, RevNumber, Revision};
+use std::cmp::Ordering;
 
-// What a revision is: one with a child, or a leaf with its content.
-#[derive(Clone, Copy)]
-pub enum Kind {
-    Inner,
-    Leaf(Content),
-}
-
-// A revision with what is known of it. Where the parent isn't known its hash says nothing.
+// A revision with what is known of it: its parent's hash, and its content where it is a leaf.
 #[derive(Clone, Copy)]
 pub struct Row {
     pub rev: Revision,
-    pub known: bool,
-    pub parent: [u8; HASH],
-    pub kind: Kind,
+    pub parent: Option<[u8; HASH]>,
+    pub content: Option<Content>,
 }
 
-pub(crate) fn kind_of(k: u8, label: u64) -> Kind
+pub(crate) fn kind_of(k: u8, label: u64) -> Option<Content>
     ensures { result ≡ kind_from k label }
 {
-    if k == 0 {
-        return Kind::Inner;
+    match k {
+        0 => None,
+        1 => Some(Content::Live(label)),
+        _ => Some(Content::Deleted),
     }
-    if k == 1 {
-        return Kind::Leaf(Content::Live(label));
-    }
-    Kind::Leaf(Content::Deleted)
 }
 
 // The revision at `at`.
@@ -52,10 +43,21 @@ pub(crate) fn get_rev(s: &[u8], at: usize) -> Revision
     Revision { number, hash }
 }
 
-// The kind at `at`.
-pub(crate) fn get_kind(s: &[u8], at: usize) -> Kind
+// The parent's hash at `at`, if the parent is known.
+fn get_parent(s: &[u8], at: usize) -> Option<[u8; HASH]>
     requires { at + row_size ≤ length s.now }
-    ensures { result ≡ (row_at at s.now).kind }
+    ensures { result ≡ (row_at at s.now).parent }
+{
+    if layout::row::known(s, at) == 0 {
+        return None;
+    }
+    Some(layout::row::parent(s, at))
+}
+
+// The kind at `at`.
+pub(crate) fn get_kind(s: &[u8], at: usize) -> Option<Content>
+    requires { at + row_size ≤ length s.now }
+    ensures { result ≡ (row_at at s.now).content }
 {
     kind_of(layout::row::kind(s, at), layout::row::label(s, at))
 }
@@ -66,14 +68,12 @@ pub(crate) fn get_row(s: &[u8], at: usize) -> Row
     ensures { result ≡ row_at at s.now }
 {
     let rev = get_rev(s, at);
-    let known = layout::row::known(s, at) != 0;
-    let parent = layout::row::parent(s, at);
-    let kind = get_kind(s, at);
+    let parent = get_parent(s, at);
+    let content = get_kind(s, at);
     Row {
         rev,
-        known,
         parent,
-        kind,
+        content,
     }
 }
 
@@ -95,35 +95,22 @@ pub(crate) fn content_label(c: Content) -> u64
     }
 }
 
-fn kind_byte(k: Kind) -> u8
-    ensures { result ≡ kind_byte (content_of k) }
+fn kind_byte(k: Option<Content>) -> u8
+    ensures { result ≡ kind_byte k }
 {
-    match k {
-        Kind::Inner => 0,
-        Kind::Leaf(c) => content_kind(c),
-    }
+    k.map_or(0, content_kind)
 }
 
-fn label_of(k: Kind) -> u64
-    ensures { result ≡ label_held (content_of k) }
+fn label_of(k: Option<Content>) -> u64
+    ensures { result ≡ label_held k }
 {
-    match k {
-        Kind::Inner => 0,
-        Kind::Leaf(c) => content_label(c),
-    }
+    k.map_or(0, content_label)
 }
 
-fn flag_of(rev: Revision, known: bool, parent: [u8; HASH]) -> u8
-    ensures { result ≡ known_byte (parent_of rev known parent) }
+fn flag_of(parent: Option<[u8; HASH]>) -> u8
+    ensures { result ≡ known_byte parent }
 {
-    if known { 1 } else { 0 }
-}
-
-// A parent's hash as it is stored: zeros where the parent isn't known.
-fn parent_bytes(rev: Revision, known: bool, parent: [u8; HASH]) -> [u8; HASH]
-    ensures { IsParentHash rev known parent result }
-{
-    if known { parent } else { [0u8; HASH] }
+    parent.is_some() as u8
 }
 
 // Writes the kind, the flag and the zeros of the row at `at`.
@@ -136,36 +123,28 @@ fn put_marks(s: &mut [u8], at: usize, kind: u8, flag: u8)
     put2(s, at + ROW_ZERO_IN, 0);
 }
 
-// Writes a row.
+// Writes a row, with zeros for the hash of a parent that isn't known.
 pub fn put_row(s: &mut [u8], at: usize, row: Row)
     requires { at + row_size ≤ length s.old }
     ensures { RowPut s.old at row s.new }
 {
-    let rev = row.rev;
-    let number = rev.number;
-    let hash = rev.hash;
-    let parent = row.parent;
-    let kind = row.kind;
-    put4(s, at, number.0);
-    put_hash(s, at + HASH_IN, hash);
-    put_marks(s, at, kind_byte(kind), flag_of(rev, row.known, parent));
-    put_hash(s, at + PARENT_HASH_IN, parent_bytes(rev, row.known, parent));
-    put8(s, at + LABEL_IN, label_of(kind));
+    put4(s, at, row.rev.number.0);
+    put_hash(s, at + HASH_IN, row.rev.hash);
+    put_marks(s, at, kind_byte(row.content), flag_of(row.parent));
+    put_hash(s, at + PARENT_HASH_IN, row.parent.unwrap_or([0u8; HASH]));
+    put8(s, at + LABEL_IN, label_of(row.content));
 }
 
 // A revision's number and hash, given apart, beside the revision of the row at `at`: by number, then by
 // hash. The row is compared where it stands. They come apart, since a copy of both as one is slow right
 // after they were put together.
-pub fn compare_at(number: RevNumber, hash: [u8; HASH], s: &[u8], at: usize) -> Order
+pub fn compare_at(number: RevNumber, hash: [u8; HASH], s: &[u8], at: usize) -> Ordering
     requires { at + row_size ≤ length s.now }
     ensures { result ≡ order_rev (revision number.0 hash) (rev_at at s.now) }
 {
     let y = layout::row::number(s, at);
-    if number.0 < y.0 {
-        return Order::Less;
+    match number.0.cmp(&y.0) {
+        Ordering::Equal => order_hash_at(hash, s, at + HASH_IN),
+        unequal => unequal,
     }
-    if y.0 < number.0 {
-        return Order::Greater;
-    }
-    order_hash_at(hash, s, at + HASH_IN)
 }

@@ -8,23 +8,17 @@ ghost use Rattle.rules.specs.Write.{is_none};
 ghost use Rattle.tree.specs.Rows.{row_at, rev_at};
 ghost use Rattle.tree.specs.Table.{tree_in, row_start, place_of, Searchable, CanInsert, RowInserted};
 
-use crate::row::{Kind, Row, compare_at, get_kind, get_rev, get_row, put_row};
+use crate::row::{Row, compare_at, get_kind, get_rev, get_row, put_row};
 use layout::ROW;
 use octets::run::move_up;
-use rules::{HASH, Order, RevNumber, Revision};
+use rules::{Content, HASH, RevNumber, Revision};
+use std::cmp::Ordering;
 
 // A tree's rows: where the first begins, and how many follow each other.
 #[derive(Clone, Copy)]
 pub struct Body {
     pub base: usize,
     pub rows: usize,
-}
-
-// Where a revision is, or the gap where it would go.
-#[derive(Clone, Copy)]
-pub enum Found {
-    At(usize),
-    Gap(usize),
 }
 
 // Row i.
@@ -44,15 +38,16 @@ pub fn rev_at(s: &[u8], body: Body, i: usize) -> Revision
 }
 
 // Row i's kind.
-pub fn kind_at(s: &[u8], body: Body, i: usize) -> Kind
+pub fn kind_at(s: &[u8], body: Body, i: usize) -> Option<Content>
     requires { row_start body i + row_size ≤ length s.now }
-    ensures { result ≡ (row_at (row_start body i) s.now).kind }
+    ensures { result ≡ (row_at (row_start body i) s.now).content }
 {
     get_kind(s, body.base + i * ROW)
 }
 
-// The first row that is not below a number and hash: it, or the gap before it. By halves.
-fn search(s: &[u8], body: Body, number: RevNumber, hash: [u8; HASH]) -> Found
+// The first row that is not below a number and hash: it, or the gap before it. By halves, and by hand: the
+// rows are bytes, and the library searches a slice of values, which they would first be read into.
+fn search(s: &[u8], body: Body, number: RevNumber, hash: [u8; HASH]) -> Result<usize, usize>
     requires { Searchable body s.now }
     ensures { result ≡ place_of 0 (revision number.0 hash) (tree_in body s.now) }
 {
@@ -61,37 +56,37 @@ fn search(s: &[u8], body: Body, number: RevNumber, hash: [u8; HASH]) -> Found
     while lo < hi {
         let mid = lo + (hi - lo) / 2;
         match compare_at(number, hash, s, body.base + mid * ROW) {
-            Order::Less => {
+            Ordering::Less => {
                 hi = mid;
             }
-            Order::Equal => {
-                return Found::At(mid);
+            Ordering::Equal => {
+                return Ok(mid);
             }
-            Order::Greater => {
+            Ordering::Greater => {
                 lo = mid + 1;
             }
         }
     }
-    Found::Gap(lo)
+    Err(lo)
 }
 
 // Where rev is. The last row is tried first, since a history mostly grows at its end.
-pub fn find(s: &[u8], body: Body, rev: Revision) -> Found
+pub fn find(s: &[u8], body: Body, rev: Revision) -> Result<usize, usize>
     requires { Searchable body s.now }
     ensures { result ≡ place_of 0 rev (tree_in body s.now) }
 {
     let rows = body.rows;
     if rows == 0 {
-        return Found::Gap(0);
+        return Err(0);
     }
     let last = rows - 1;
     let base = body.base;
     let number = rev.number;
     let hash = rev.hash;
     match compare_at(number, hash, s, base + last * ROW) {
-        Order::Less => search(s, Body { base, rows: last }, number, hash),
-        Order::Equal => Found::At(last),
-        Order::Greater => Found::Gap(rows),
+        Ordering::Less => search(s, Body { base, rows: last }, number, hash),
+        Ordering::Equal => Ok(last),
+        Ordering::Greater => Err(rows),
     }
 }
 
@@ -100,10 +95,7 @@ pub fn is_missing(s: &[u8], body: Body, rev: Revision) -> bool
     requires { Searchable body s.now }
     ensures { result ≡ is_none (find order_rev rev (tree_in body s.now)) }
 {
-    match find(s, body, rev) {
-        Found::At(_) => false,
-        Found::Gap(_) => true,
-    }
+    find(s, body, rev).is_err()
 }
 
 // Puts a row in at `at`: the bytes from there to `end` move up, and the row takes the gap.

@@ -1,16 +1,16 @@
 -- Writes and pulls of which nothing was refused: what they leave is the union of what was held and given, whatever it was. Assumes nothing.
 use mathlib.Core.Path.{◌≡◌, refl, sym, ◌∙◌, subst}
+use Rattle.rules.specs.declared.Outcome.{Outcome}
+use Rattle.std.specs.Prelude.{Result, Ok, Err}
 use mathlib.Core.List.{List, [], ◌∷◌}
 use mathlib.Core.Logic.{◌⊎◌, inl, inr}
-use mathlib.Core.Option.{Option, none, some}
+use Rattle.std.specs.Prelude.{Option, None, Some}
 use Prim.Native.Nat.{ℕ}
 use native.Mathlib.Omega.{arith}
 use Rattle.rules.specs.declared.Content.{Content}
 use Rattle.rules.specs.declared.Outcome.TheVariants.{Changed, Unchanged}
 use Rattle.rules.specs.declared.Refusal.{Refusal}
 use Rattle.rules.specs.declared.Revision.{Revision}
-use Rattle.rules.specs.declared.Written.{Written}
-use Rattle.rules.specs.declared.Written.TheVariants.{Accepted, Refused}
 use Rattle.rules.specs.Choice.{pick, how_many, first_that}
 use Rattle.rules.specs.Pull.{offers, pull}
 use Rattle.rules.specs.Replica.{Id, Node, Replica, IsReplica}
@@ -28,16 +28,16 @@ use Rattle.union.proofs.Pulls.{counts_each, pull_keeps, pull_writes}
 -- ---- writes that are all accepted
 
 -- an accepted write was refused by none of the conditions
-unrefused_if : (r : Replica) (w : Write) → IsAccepted (write r w).0 → first_that (write_refusals r w) ≡ none
+unrefused_if : (r : Replica) (w : Write) → IsAccepted (write r w).0 → first_that (write_refusals r w) ≡ None
 unfolding write
 unrefused_if r w = go (first_that (write_refusals r w))
   where
-    left : Written × Replica
-    left = pick (adds r w) (Accepted Changed, added r w) (Accepted Unchanged, r)
+    left : Result Outcome Refusal × Replica
+    left = pick (adds r w) (Ok Changed, added r w) (Ok Unchanged, r)
 
-    go : (o : Option Refusal) → IsAccepted (settle Refused r left o).0 → o ≡ none
-    go none h = refl
-    go (some n) h = absurd h
+    go : (o : Option Refusal) → IsAccepted (settle Err r left o).0 → o ≡ None
+    go None h = refl
+    go (Some n) h = absurd h
 
 -- what is held with what writes give, the first apart or among them
 first_in : (r : Replica) (w : Write) (ws : List Write) → Within (both (both (held r) (given (w ∷ []))) (given ws)) (both (held r) (given (w ∷ ws)))
@@ -102,9 +102,9 @@ accepted_union (w ∷ ws) h r k a =
 
 -- ---- a pull that refused nothing
 
-accepted_if : (o : Written) → ◌≡◌ {A = ℕ} (pick (is_refused o) 1 0) 0 → IsAccepted o
-accepted_if (Accepted o) e = tt
-accepted_if (Refused n) e = absurd (omega arith)
+accepted_if : (o : Result Outcome Refusal) → ◌≡◌ {A = ℕ} (pick (is_refused o) 1 0) 0 → IsAccepted o
+accepted_if (Ok o) e = tt
+accepted_if (Err n) e = absurd (omega arith)
 
 none_refused : (ws : List Write) (r : Replica) → how_many is_refused (answers r ws) ≡ 0 → AllAccepted ws r
 unfolding how_many answers

@@ -1,21 +1,18 @@
 -- One document and the others: reads of a document depend on it alone, and a write to it on it, the update sequence and the counts alone. Assumes nothing.
 use mathlib.Core.Path.{◌≡◌, refl, sym, ap, ◌∙◌, subst}
+use Rattle.rules.specs.declared.Outcome.{Outcome}
+use Rattle.std.specs.Prelude.{Result, Ok, Err}
 use mathlib.Core.Bool.{Bool, true, false}
 use mathlib.Core.List.{List, [], ◌∷◌}
 use mathlib.Core.Logic.{inl}
-use mathlib.Core.Option.{Option, none, some}
+use Rattle.std.specs.Prelude.{Option, None, Some}
 use Prim.Native.Nat.{ℕ}
 use native.Mathlib.Omega.{arith}
 use lib.ListN.{length}
 use Rattle.rules.specs.declared.Change.{Change}
-use Rattle.rules.specs.declared.Changes.{Changes}
-use Rattle.rules.specs.declared.Changes.TheVariants as changed
-use Rattle.rules.specs.declared.Edited.TheVariants as edited
 use Rattle.rules.specs.declared.Outcome.TheVariants.{Changed, Unchanged}
 use Rattle.rules.specs.declared.Refusal.{Refusal}
 use Rattle.rules.specs.declared.Seq.{Seq}
-use Rattle.rules.specs.declared.Written.{Written}
-use Rattle.rules.specs.declared.Written.TheVariants.{Accepted, Refused}
 use Rattle.rules.specs.Choice.{pick, maybe, first_that}
 use Rattle.rules.specs.Edit.{Edit, parent_of, parent_rule, new_number, as_write, already_known, last_number, edit_refusals, edit}
 use Rattle.rules.specs.Read.{documents_after, front, short_buffer, lend, read_winner, read_leaves, read_path, read_missing, document_refusals, change_of, first_of, read_changes}
@@ -34,7 +31,7 @@ use Rattle.union.proofs.Offers.{after_out}
 
 -- ---- reads
 
-first_in : {A : Type 0} (xs : List A) (x : A) → first_of xs ≡ some x → In x xs
+first_in : {A : Type 0} (xs : List A) (x : A) → first_of xs ≡ Some x → In x xs
 first_in [] x e = absurd (none≢some e)
 first_in (y ∷ ys) x e = inl (sym (some_inj e))
 
@@ -48,28 +45,28 @@ same_answers i r s e = record {
 }
 
 -- what changes says is what is said of the document whose id it writes
-pub changes_about : (r : Replica) → IsReplica r → (s : Seq) (out left : List ℕ) (c : Change) → read_changes r s out ≡ (changed.Next c, left)
-    → (i : Id) × (left ≡ front i out) × (change_about r i ≡ some c)
+pub changes_about : (r : Replica) → IsReplica r → (s : Seq) (out left : List ℕ) (c : Change) → read_changes r s out ≡ (Ok (Some c), left)
+    → (i : Id) × (left ≡ front i out) × (change_about r i ≡ Some c)
 unfolding read_changes document_of
 changes_about r k s out left c = go (first_of (documents_after s r.documents)) refl
   where
     said : (x : Id × Document) → In x r.documents → (o : Option Refusal)
-        → lend changed.Refused out (changed.Next (change_of x)) x.0 o ≡ (changed.Next c, left) → (i : Id) × (left ≡ front i out) × (change_about r i ≡ some c)
-    said x m (some n) q =
-        let e : changed.Refused n ≡ changed.Next c = ap (λ (z : Changes × List ℕ). z.0) q in
+        → lend Err out (Ok (Some (change_of x))) x.0 o ≡ (Ok (Some c), left) → (i : Id) × (left ≡ front i out) × (change_about r i ≡ Some c)
+    said x m (Some n) q =
+        let e : Err n ≡ Ok (Some c) = ap (λ (z : Result (Option Change) Refusal × List ℕ). z.0) q in
         absurd (let z : ◌≡◌ {A = ℕ} 0 1 = cc in omega arith)
-    said x m none q =
-        let e : changed.Next (change_of x) ≡ changed.Next c = ap (λ (z : Changes × List ℕ). z.0) q in
+    said x m None q =
+        let e : Ok (Some (change_of x)) ≡ Ok (Some c) = ap (λ (z : Result (Option Change) Refusal × List ℕ). z.0) q in
         let f : change_of x ≡ c = cc in
-        (x.0, ap (λ (z : Changes × List ℕ). z.1) (sym q), rw (in_find bytes_order r.documents k.ascending x m) (ap some f))
+        (x.0, ap (λ (z : Result (Option Change) Refusal × List ℕ). z.1) (sym q), rw (in_find bytes_order r.documents k.ascending x m) (ap Some f))
 
     go : (o : Option (Id × Document)) → first_of (documents_after s r.documents) ≡ o
-        → maybe (changed.NoMore, out) (λ d. lend changed.Refused out (changed.Next (change_of d)) d.0 (first_that (short_buffer d.0 out ∷ []))) o ≡ (changed.Next c, left)
-        → (i : Id) × (left ≡ front i out) × (change_about r i ≡ some c)
-    go none e q =
-        let f : changed.NoMore ≡ changed.Next c = ap (λ (z : Changes × List ℕ). z.0) q in
+        → maybe (Ok None, out) (λ d. lend Err out (Ok (Some (change_of d))) d.0 (first_that (short_buffer d.0 out ∷ []))) o ≡ (Ok (Some c), left)
+        → (i : Id) × (left ≡ front i out) × (change_about r i ≡ Some c)
+    go None e q =
+        let f : (Ok None) ≡ Ok (Some c) = ap (λ (z : Result (Option Change) Refusal × List ℕ). z.0) q in
         absurd (let z : ◌≡◌ {A = ℕ} 0 1 = cc in omega arith)
-    go (some x) e q =
+    go (Some x) e q =
         said x (after_out s r.documents x (first_in (documents_after s r.documents) x e)) (first_that (short_buffer x.0 out ∷ [])) q
 
 -- ---- a write
@@ -96,20 +93,20 @@ module _ (w : Write) (r s : Replica) (h : AlikeAt w.id r s) where
   added_documents = go (document_of r w.id) refl
     where
       go : (o : Option Document) → document_of r w.id ≡ o → length (added r w).documents ≡ length (added s w).documents
-      go none e =
+      go None e =
           let a = length_alter bytes_order w.id (λ d. now r w) r.documents e in
           let b = length_alter bytes_order w.id (λ d. now s w) s.documents (sym h.document ∙ e) in
           let c = h.documents in
           omega (arith, a, b, c)
-      go (some d) e =
+      go (Some d) e =
           let a = length_alter_some bytes_order w.id (λ d. now r w) r.documents d e in
           let b = length_alter_some bytes_order w.id (λ d. now s w) s.documents d (sym h.document ∙ e) in
           let c = h.documents in
           omega (arith, a, b, c)
 
-  added_alike : first_that (write_refusals r w) ≡ none → AlikeAt w.id (added r w) (added s w)
+  added_alike : first_that (write_refusals r w) ≡ None → AlikeAt w.id (added r w) (added s w)
   added_alike ok = record {
-    document = added_here r w ∙ (ap some same_now ∙ sym (added_here s w));
+    document = added_here r w ∙ (ap Some same_now ∙ sym (added_here s w));
     seq = (unfold added in ap next h.seq);
     documents = added_documents;
     revisions = (let low = (passed r w ok).form.number_ok in
@@ -120,13 +117,13 @@ module _ (w : Write) (r s : Replica) (h : AlikeAt w.id r s) where
   unfolding write
   write_alike = rw (sym same_refusals, sym same_adds) (go (first_that (write_refusals r w)) refl (adds r w))
     where
-      left : (t : Replica) → Bool → Option Refusal → Written × Replica
-      left t b o = settle Refused t (pick b (Accepted Changed, added t w) (Accepted Unchanged, t)) o
+      left : (t : Replica) → Bool → Option Refusal → Result Outcome Refusal × Replica
+      left t b o = settle Err t (pick b (Ok Changed, added t w) (Ok Unchanged, t)) o
 
       go : (o : Option Refusal) → first_that (write_refusals r w) ≡ o → (b : Bool) → ((left r b o).0 ≡ (left s b o).0) × AlikeAt w.id (left r b o).1 (left s b o).1
-      go (some n) e b = (refl, h)
-      go none e true = (refl, added_alike e)
-      go none e false = (refl, h)
+      go (Some n) e b = (refl, h)
+      go None e true = (refl, added_alike e)
+      go None e false = (refl, h)
 
 -- ---- an edit
 
@@ -152,13 +149,13 @@ module _ (e : Edit) (r s : Replica) (h : AlikeAt e.id r s) where
   edit_alike kr ks ke = go (first_that (edit_refusals r e)) refl
     where
       go : (o : Option Refusal) → first_that (edit_refusals r e) ≡ o → ((edit r e).0 ≡ (edit s e).0) × AlikeAt e.id (edit r e).1 (edit s e).1
-      go (some n) q = unfold edit in rw (sym same_edit_refusals, q) (refl, h)
-      go none q =
+      go (Some n) q = unfold edit in rw (sym same_edit_refusals, q) (refl, h)
+      go None q =
           let a = edit_is_write r e kr ke q in
           let b = edit_is_write s e ks ke (ap first_that (sym same_edit_refusals) ∙ q) in
           let g = (write_alike (as_write r e) r s (unfold as_write in h)).1 in (
-            (unfold edit in rw (sym same_edit_refusals, q) (ap edited.Accepted same_number)),
-            subst (λ (z : Replica). AlikeAt e.id z (edit s e).1) (ap (λ (z : Written × Replica). z.1) a)
-                (subst (λ (z : Replica). AlikeAt e.id (write r (as_write r e)).1 z) (ap (λ (z : Write). (write s z).1) same_write ∙ ap (λ (z : Written × Replica). z.1) b)
+            (unfold edit in rw (sym same_edit_refusals, q) (ap Ok same_number)),
+            subst (λ (z : Replica). AlikeAt e.id z (edit s e).1) (ap (λ (z : Result Outcome Refusal × Replica). z.1) a)
+                (subst (λ (z : Replica). AlikeAt e.id (write r (as_write r e)).1 z) (ap (λ (z : Write). (write s z).1) same_write ∙ ap (λ (z : Result Outcome Refusal × Replica). z.1) b)
                 (unfold as_write in g)),
           )

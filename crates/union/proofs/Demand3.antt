@@ -1,18 +1,16 @@
 -- Demand 3: what writes and pulls leave is the union of what was given and held, "stated from what is given or held, never by running writes or pulls". Assumes nothing.
 use mathlib.Core.Path.{◌≡◌}
+use Rattle.std.specs.Prelude.{Ok, Err}
 use mathlib.Core.Bool.{false}
 use mathlib.Core.List.{List, ◌++◌}
 use mathlib.Core.Logic.{◌↔◌}
-use mathlib.Core.Option.{none, some}
+use Rattle.std.specs.Prelude.{None, Some}
 use Prim.Native.Nat.{ℕ}
 use lib.ListN.{length}
 use Rattle.rules.specs.declared.Change.{Change}
-use Rattle.rules.specs.declared.Changes.TheVariants as changed
-use Rattle.rules.specs.declared.Edited.TheVariants as edited
 use Rattle.rules.specs.declared.Outcome.TheVariants.{Changed, Unchanged}
 use Rattle.rules.specs.declared.Refusal.{Refusal}
 use Rattle.rules.specs.declared.Seq.{Seq}
-use Rattle.rules.specs.declared.Written.TheVariants.{Accepted, Refused}
 use Rattle.rules.specs.Choice.{first_that}
 use Rattle.rules.specs.Edit.{Edit, as_write, edit_refusals, edit}
 use Rattle.rules.specs.Pull.{offers, pull}
@@ -51,30 +49,30 @@ pull_keeps = pulls.pull_keeps
 -- ---- what one call leaves
 
 -- "what a write leaves is an exact union": said without running it, and it leaves one replica
-pub write_left : (r : Replica) (w : Write) → IsReplica r → first_that (write_refusals r w) ≡ none → Left r w (write r w).1
+pub write_left : (r : Replica) (w : Write) → IsReplica r → first_that (write_refusals r w) ≡ None → Left r w (write r w).1
 write_left = one.write_left
 
 pub left_one : (r : Replica) (w : Write) (a b : Replica) → IsReplica a → IsReplica b → Left r w a → Left r w b → a ≡ b
 left_one = one.left_one
 
 -- "Where nothing was added": the test that decides it says that all revisions and parents given are known
-pub adds_nothing : (r : Replica) (w : Write) → IsReplica r → first_that (write_refusals r w) ≡ none → (adds r w ≡ false) ↔ Knows r w
+pub adds_nothing : (r : Replica) (w : Write) → IsReplica r → first_that (write_refusals r w) ≡ None → (adds r w ≡ false) ↔ Knows r w
 adds_nothing = one.adds_nothing
 
 -- "A refusal .. alters neither replica nor buffer", and "unchanged" says that nothing was altered
-pub write_refused : (r : Replica) (w : Write) (n : Refusal) → (write r w).0 ≡ Refused n → (write r w).1 ≡ r
+pub write_refused : (r : Replica) (w : Write) (n : Refusal) → (write r w).0 ≡ Err n → (write r w).1 ≡ r
 write_refused = cases.write_refused
 
-pub write_unchanged : (r : Replica) (w : Write) → (write r w).0 ≡ Accepted Unchanged → (write r w).1 ≡ r
+pub write_unchanged : (r : Replica) (w : Write) → (write r w).0 ≡ Ok Unchanged → (write r w).1 ≡ r
 write_unchanged = cases.write_unchanged
 
-pub edit_refused : (r : Replica) (e : Edit) (n : Refusal) → (edit r e).0 ≡ edited.Refused n → (edit r e).1 ≡ r
+pub edit_refused : (r : Replica) (e : Edit) (n : Refusal) → (edit r e).0 ≡ Err n → (edit r e).1 ≡ r
 edit_refused = cases.edit_refused
 
 -- "An accepted edit leaves what the path write of the new revision and its parent, if any, would
 -- leave": and that write is accepted and changes
-pub edit_is_write : (r : Replica) (e : Edit) → IsReplica r → IsEdit e → first_that (edit_refusals r e) ≡ none
-    → write r (as_write r e) ≡ (Accepted Changed, (edit r e).1)
+pub edit_is_write : (r : Replica) (e : Edit) → IsReplica r → IsEdit e → first_that (edit_refusals r e) ≡ None
+    → write r (as_write r e) ≡ (Ok Changed, (edit r e).1)
 edit_is_write = edits.edit_is_write
 
 -- ---- the frame law
@@ -93,8 +91,8 @@ pub pull_answers : (s : Seq) (source target : Replica) (j : Id)
 pull_answers s source target j n = apart.same_answers j (pull s source target).1 target (pulls.pull_other s source target j n)
 
 -- what changes says is what is said of the document whose id it writes
-pub changes_about : (r : Replica) → IsReplica r → (s : Seq) (out left : List ℕ) (c : Change) → read_changes r s out ≡ (changed.Next c, left)
-    → (i : Id) × (left ≡ front i out) × (change_about r i ≡ some c)
+pub changes_about : (r : Replica) → IsReplica r → (s : Seq) (out left : List ℕ) (c : Change) → read_changes r s out ≡ (Ok (Some c), left)
+    → (i : Id) × (left ≡ front i out) × (change_about r i ≡ Some c)
 changes_about = apart.changes_about
 
 -- "Only the update sequence and the shared room connect them.": replicas alike in a document, in update

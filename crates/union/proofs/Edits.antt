@@ -1,9 +1,10 @@
 -- An accepted edit leaves what the path write of the new revision and its parent leaves. Assumes nothing.
 use mathlib.Core.Path.{◌≡◌, refl, sym, ap, ◌∙◌, subst}
+use Rattle.std.specs.Prelude.{Ok}
 use mathlib.Core.Bool.{Bool, true, false, not, ◌&&◌, ◌||◌, true≢false}
 use mathlib.Core.List.{List, [], ◌∷◌, ◌++◌, append-nil}
 use mathlib.Core.Logic.{inl, inr}
-use mathlib.Core.Option.{Option, none, some}
+use Rattle.std.specs.Prelude.{Option, None, Some}
 use Prim.Native.Nat.{ℕ, suc, ◌≤◌}
 use native.Mathlib.Omega.{arith}
 use lib.Dec.{eqb}
@@ -11,7 +12,6 @@ use lib.ListN.{length}
 use borrow.Author.Tests.{le-ltb, eqb-false, not-false}
 use Rattle.rules.specs.declared.Outcome.TheVariants.{Changed}
 use Rattle.rules.specs.declared.Revision.{Revision}
-use Rattle.rules.specs.declared.Written.TheVariants.{Accepted}
 use Rattle.rules.specs.Bytes.{Bytes, join}
 use Rattle.rules.specs.Choice.{pick, maybe, any, first_that}
 use Rattle.rules.specs.Edit.{Edit, content_in, is_leaf, deleted_winner, parent_of, parent_rule, new_number, as_write, already_known, last_number, edit_refusals, edit}
@@ -39,37 +39,37 @@ use Rattle.union.proofs.Keeps.{added_keeps}
 
 -- ---- the parent is known
 
-found : (o : Option Node) → not (is_none (content_in o)) ≡ true → (n : Node) × (o ≡ some n)
-found none e = absurd (true≢false (sym e))
-found (some n) e = (n, refl)
+found : (o : Option Node) → not (is_none (content_in o)) ≡ true → (n : Node) × (o ≡ Some n)
+found None e = absurd (true≢false (sym e))
+found (Some n) e = (n, refl)
 
 leaf_known : (t : Tree) (p : Revision) → is_leaf t p ≡ true → Known t p
 unfolding is_leaf
 leaf_known t p e = found (find order_rev p t) e
 
-deleted_known : (t : Tree) → Ascending order_rev t → (p : Revision) → deleted_winner t ≡ some p → Known t p
+deleted_known : (t : Tree) → Ascending order_rev t → (p : Revision) → deleted_winner t ≡ Some p → Known t p
 unfolding deleted_winner
 deleted_known t s p e = go (winner t) refl e
   where
-    go : (o : Option LeafOf) → winner t ≡ o → maybe none (λ w. pick (is_deletion w.content) (some w.rev) none) o ≡ some p → Known t p
-    go none q f = absurd (none≢some f)
-    go (some a) q f = by (is_deletion a.content) f
+    go : (o : Option LeafOf) → winner t ≡ o → maybe None (λ w. pick (is_deletion w.content) (Some w.rev) None) o ≡ Some p → Known t p
+    go None q f = absurd (none≢some f)
+    go (Some a) q f = by (is_deletion a.content) f
       where
-        by : (b : Bool) → pick b (some a.rev) none ≡ some p → Known t p
+        by : (b : Bool) → pick b (Some a.rev) None ≡ Some p → Known t p
         by true g =
             let h = ((winner_top t s a).0 q).0 in
-            (h.0, subst (λ (v : Revision). find order_rev v t ≡ some h.0) (some_inj g) h.1)
+            (h.0, subst (λ (v : Revision). find order_rev v t ≡ Some h.0) (some_inj g) h.1)
         by false g = absurd (none≢some g)
 
-pub parent_known : (r : Replica) (e : Edit) → IsReplica r → parent_rule r e ≡ true → (p : Revision) → parent_of r e ≡ some p → Known (tree_of r e.id) p
+pub parent_known : (r : Replica) (e : Edit) → IsReplica r → parent_rule r e ≡ true → (p : Revision) → parent_of r e ≡ Some p → Known (tree_of r e.id) p
 unfolding parent_rule parent_of
 parent_known r e k rule p q = go e.parent refl rule q
   where
     go : (o : Option Revision) → e.parent ≡ o
         → maybe (is_live e.content && (is_none (document_of r e.id) || not (is_none (deleted_winner (tree_of r e.id))))) (is_leaf (tree_of r e.id)) o ≡ true
-        → maybe (deleted_winner (tree_of r e.id)) some o ≡ some p → Known (tree_of r e.id) p
-    go none f a b = deleted_known (tree_of r e.id) (ascending_own r k e.id) p b
-    go (some v) f a b = leaf_known (tree_of r e.id) p (subst (λ (z : Revision). is_leaf (tree_of r e.id) z ≡ true) (some_inj b) a)
+        → maybe (deleted_winner (tree_of r e.id)) Some o ≡ Some p → Known (tree_of r e.id) p
+    go None f a b = deleted_known (tree_of r e.id) (ascending_own r k e.id) p b
+    go (Some v) f a b = leaf_known (tree_of r e.id) p (subst (λ (z : Revision). is_leaf (tree_of r e.id) z ≡ true) (some_inj b) a)
 
 -- ---- the write that says the same
 
@@ -81,43 +81,43 @@ number_of o = maybe 0 (λ p. p.number.0) o
 
 path_joined : (h : Hash) (o : Option Revision) → h ++ maybe [] (λ p. p.hash) o ≡ join (h ∷ older o)
 unfolding join
-path_joined h none = refl
-path_joined h (some p) = ap (λ (z : List ℕ). h ++ z) (sym (append-nil p.hash))
+path_joined h None = refl
+path_joined h (Some p) = ap (λ (z : List ℕ). h ++ z) (sym (append-nil p.hash))
 
-older_sized : (o : Option Revision) → ((p : Revision) → o ≡ some p → IsRevision p) → Sized hash_size (older o)
-older_sized none k = tt
-older_sized (some p) k = ((k p refl).size, tt)
+older_sized : (o : Option Revision) → ((p : Revision) → o ≡ Some p → IsRevision p) → Sized hash_size (older o)
+older_sized None k = tt
+older_sized (Some p) k = ((k p refl).size, tt)
 
-older_few : (o : Option Revision) → ((p : Revision) → o ≡ some p → IsRevision p) → (length (older o) ≤ 1) × (length (older o) ≤ number_of o)
-older_few none k = (omega arith, omega arith)
-older_few (some p) k = (omega arith, (k p refl).least)
+older_few : (o : Option Revision) → ((p : Revision) → o ≡ Some p → IsRevision p) → (length (older o) ≤ 1) × (length (older o) ≤ number_of o)
+older_few None k = (omega arith, omega arith)
+older_few (Some p) k = (omega arith, (k p refl).least)
 
-older_bytes : (o : Option Revision) → ((p : Revision) → o ≡ some p → IsRevision p) → Bytes (maybe [] (λ p. p.hash) o)
-older_bytes none k = tt
-older_bytes (some p) k = (k p refl).bytes
+older_bytes : (o : Option Revision) → ((p : Revision) → o ≡ Some p → IsRevision p) → Bytes (maybe [] (λ p. p.hash) o)
+older_bytes None k = tt
+older_bytes (Some p) k = (k p refl).bytes
 
 -- the oldest of a path is given neither a parent nor, where it is not the newest, a content
-older_plain : (o : Option Revision) (n : ℕ) (x : Entry) → In x (along n (older o) none) → (x.1.parent ≡ none) × (x.1.content ≡ none)
+older_plain : (o : Option Revision) (n : ℕ) (x : Entry) → In x (along n (older o) None) → (x.1.parent ≡ None) × (x.1.content ≡ None)
 unfolding along
-older_plain none n x m = absurd m
-older_plain (some p) n x (inl q) = (ap (λ (z : Entry). z.1.parent) q, ap (λ (z : Entry). z.1.content) q)
-older_plain (some p) n x (inr m) = absurd m
+older_plain None n x m = absurd m
+older_plain (Some p) n x (inl q) = (ap (λ (z : Entry). z.1.parent) q, ap (λ (z : Entry). z.1.content) q)
+older_plain (Some p) n x (inr m) = absurd m
 
-differ_nothing : {A : Type 0} (same : A → A → Bool) (x y : Option A) → y ≡ none → differ same x y ≡ false
-differ_nothing same none y e = refl
-differ_nothing same (some a) none e = refl
-differ_nothing same (some a) (some b) e = absurd (none≢some (sym e))
+differ_nothing : {A : Type 0} (same : A → A → Bool) (x y : Option A) → y ≡ None → differ same x y ≡ false
+differ_nothing same None y e = refl
+differ_nothing same (Some a) None e = refl
+differ_nothing same (Some a) (Some b) e = absurd (none≢some (sym e))
 
-not_none : {A : Type 0} (o : Option A) → not (is_none o) ≡ false → o ≡ none
-not_none none e = refl
-not_none (some a) e = absurd (true≢false e)
+not_none : {A : Type 0} (o : Option A) → not (is_none o) ≡ false → o ≡ None
+not_none None e = refl
+not_none (Some a) e = absurd (true≢false e)
 
 or-true : (a b : Bool) → a ≡ true → (a || b) ≡ true
 or-true a b e = rw e refl
 
-number_room : (o : Option Revision) → maybe false (λ p. eqb p.number.0 number_most) o ≡ false → ((p : Revision) → o ≡ some p → IsRevision p) → suc (number_of o) ≤ number_most
-number_room none e k = omega arith
-number_room (some p) e k = let h = (k p refl).most in let t = eqb-false p.number.0 number_most e in omega arith
+number_room : (o : Option Revision) → maybe false (λ p. eqb p.number.0 number_most) o ≡ false → ((p : Revision) → o ≡ Some p → IsRevision p) → suc (number_of o) ≤ number_most
+number_room None e k = omega arith
+number_room (Some p) e k = let h = (k p refl).most in let t = eqb-false p.number.0 number_most e in omega arith
 
 -- 1, 9, 11, 10, 6, 7 and 8 do not refuse
 record EditPassed (r : Replica) (e : Edit) : Type 0 where
@@ -129,17 +129,17 @@ record EditPassed (r : Replica) (e : Edit) : Type 0 where
   seven : revisions_full r (as_write r e) ≡ false
   eight : sequence_spent r (as_write r e) ≡ false
 
-edit_passes : (r : Replica) (e : Edit) → first_that (edit_refusals r e) ≡ none → EditPassed r e
+edit_passes : (r : Replica) (e : Edit) → first_that (edit_refusals r e) ≡ None → EditPassed r e
 unfolding edit_refusals room_refusals as_write
 edit_passes r e ok =
     let (one, (nine, (eleven, (ten, (six, (seven, (eight, end))))))) = none_holds (edit_refusals r e) ok in
     record { id_ok = one; nine = not-false (parent_rule r e) nine; eleven = eleven; ten = ten; six = six; seven = seven; eight = eight }
 
-module _ (r : Replica) (e : Edit) (k : IsReplica r) (q : IsEdit e) (ok : first_that (edit_refusals r e) ≡ none) where
+module _ (r : Replica) (e : Edit) (k : IsReplica r) (q : IsEdit e) (ok : first_that (edit_refusals r e) ≡ None) where
   ep : EditPassed r e
   ep = edit_passes r e ok
 
-  known_parent : (p : Revision) → parent_of r e ≡ some p → IsRevision p
+  known_parent : (p : Revision) → parent_of r e ≡ Some p → IsRevision p
   known_parent p f = let t = parent_known r e k ep.nine p f in (sound_own r k).revision e.id (p, t.0) t.1
 
   hashes_edit : hashes (as_write r e) ≡ e.hash ∷ older (parent_of r e)
@@ -147,20 +147,20 @@ module _ (r : Replica) (e : Edit) (k : IsReplica r) (q : IsEdit e) (ok : first_t
   hashes_edit = hashes_join (as_write r e) (e.hash ∷ older (parent_of r e)) (path_joined e.hash (parent_of r e)) (q.size, older_sized (parent_of r e) known_parent)
 
   newest : Entry
-  newest = (revision (suc (number_of (parent_of r e))) e.hash, record { parent = newest_of (number_of (parent_of r e)) (older (parent_of r e)); content = some e.content })
+  newest = (revision (suc (number_of (parent_of r e))) e.hash, record { parent = newest_of (number_of (parent_of r e)) (older (parent_of r e)); content = Some e.content })
 
-  gives_edit : gives (as_write r e) ≡ newest ∷ along (number_of (parent_of r e)) (older (parent_of r e)) none
+  gives_edit : gives (as_write r e) ≡ newest ∷ along (number_of (parent_of r e)) (older (parent_of r e)) None
   unfolding gives as_write new_number along newest
-  gives_edit = ap (λ (hs : List Hash). along (suc (number_of (parent_of r e))) hs (some e.content)) hashes_edit
+  gives_edit = ap (λ (hs : List Hash). along (suc (number_of (parent_of r e))) hs (Some e.content)) hashes_edit
 
-  new : find order_rev newest.0 (tree_of r e.id) ≡ none
+  new : find order_rev newest.0 (tree_of r e.id) ≡ None
   unfolding already_known new_number newest
   new = not_none (find order_rev newest.0 (tree_of r e.id)) ep.ten
 
-  in_gives : (P : Entry → Type 0) → P newest → ((x : Entry) → x.1.parent ≡ none → x.1.content ≡ none → P x) → (x : Entry) → In x (gives (as_write r e)) → P x
+  in_gives : (P : Entry → Type 0) → P newest → ((x : Entry) → x.1.parent ≡ None → x.1.content ≡ None → P x) → (x : Entry) → In x (gives (as_write r e)) → P x
   in_gives P a b x m = go (rw gives_edit at m)
     where
-      go : In x (newest ∷ along (number_of (parent_of r e)) (older (parent_of r e)) none) → P x
+      go : In x (newest ∷ along (number_of (parent_of r e)) (older (parent_of r e)) None) → P x
       go (inl z) = subst P (sym z) a
       go (inr n) = let t = older_plain (parent_of r e) (number_of (parent_of r e)) x n in b x t.0 t.1
 
@@ -168,17 +168,17 @@ module _ (r : Replica) (e : Edit) (k : IsReplica r) (q : IsEdit e) (ok : first_t
   unfolding other_parent
   no_other_parent = in_gives (λ x. other_parent (tree_of r e.id) x ≡ false) (rw new refl) (λ x f g. go x f (find order_rev x.0 (tree_of r e.id)))
     where
-      go : (x : Entry) → x.1.parent ≡ none → (o : Option Node) → maybe false (λ n. differ same_rev n.parent x.1.parent) o ≡ false
-      go x f none = refl
-      go x f (some n) = differ_nothing same_rev n.parent x.1.parent f
+      go : (x : Entry) → x.1.parent ≡ None → (o : Option Node) → maybe false (λ n. differ same_rev n.parent x.1.parent) o ≡ false
+      go x f None = refl
+      go x f (Some n) = differ_nothing same_rev n.parent x.1.parent f
 
   no_other_content : (x : Entry) → In x (gives (as_write r e)) → other_content (tree_of r e.id) x ≡ false
   unfolding other_content
   no_other_content = in_gives (λ x. other_content (tree_of r e.id) x ≡ false) (rw new refl) (λ x f g. go x g (find order_rev x.0 (tree_of r e.id)))
     where
-      go : (x : Entry) → x.1.content ≡ none → (o : Option Node) → maybe false (λ n. differ agree n.content x.1.content) o ≡ false
-      go x f none = refl
-      go x f (some n) = differ_nothing agree n.content x.1.content f
+      go : (x : Entry) → x.1.content ≡ None → (o : Option Node) → maybe false (λ n. differ agree n.content x.1.content) o ≡ false
+      go x f None = refl
+      go x f (Some n) = differ_nothing agree n.content x.1.content f
 
   number_good : low_number (as_write r e) ≡ false
   unfolding low_number as_write new_number
@@ -218,8 +218,8 @@ module _ (r : Replica) (e : Edit) (k : IsReplica r) (q : IsEdit e) (ok : first_t
   }
 
 -- "An accepted edit leaves what the path write of the new revision and its parent, if any, would leave"
-pub edit_is_write : (r : Replica) (e : Edit) → IsReplica r → IsEdit e → first_that (edit_refusals r e) ≡ none
-    → write r (as_write r e) ≡ (Accepted Changed, (edit r e).1)
+pub edit_is_write : (r : Replica) (e : Edit) → IsReplica r → IsEdit e → first_that (edit_refusals r e) ≡ None
+    → write r (as_write r e) ≡ (Ok Changed, (edit r e).1)
 unfolding edit
 edit_is_write r e k q ok =
     accepted r (as_write r e) (unrefused r (as_write r e) (edit_passed r e k q ok)) ∙ rw (edit_adds r e k q ok, ok) refl

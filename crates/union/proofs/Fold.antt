@@ -8,7 +8,7 @@ use Rattle.rules.specs.Union.{In, given, Compatible, Fits, Within, write_all, Al
 use Rattle.rules.specs.Write.{Write, gives, write}
 use Rattle.union.proofs.Trees.{Entry}
 use Rattle.union.proofs.Paths.{Closed}
-use Rattle.union.proofs.Sets.{GivenBy, Givens, None, Plus, ◌⊎w◌, agrees, closed_none, closed_w, compatible_within, fits_within, only_given, things, within_sub}
+use Rattle.union.proofs.Sets.{GivenBy, Givens, NoGivens, Plus, ◌⊎w◌, agrees, closed_none, closed_w, compatible_within, fits_within, only_given, things, within_sub}
 use Rattle.union.proofs.Refusals.{Well}
 use Rattle.union.proofs.Replicas.{Holds, holds_iff, step}
 
@@ -51,14 +51,14 @@ absorb (w ∷ ws) r G a c k g f q =
 
 -- ---- from fresh
 
-pub holds_fresh : Holds fresh None
+pub holds_fresh : Holds fresh NoGivens
 unfolding document_of find
 holds_fresh = record { ascending = tt; at = λ i x m. m }
 
 pub holds_all : (ws : List Write) → ((w : Write) → In w ws → Well w) → Compatible (given ws) → Fits (given ws) → SeqSuffices ws fresh
     → AllAccepted ws fresh × Holds (write_all ws fresh) (GivenBy ws)
 holds_all ws k g f q =
-    let t = absorb ws fresh None holds_fresh closed_none k
-    (compatible_within (things (Plus None ws)) (given ws) (only_given ws) g)
-    (fits_within (things (Plus None ws)) (given ws) (only_given ws) f) q in
-    (t.0, holds_iff (write_all ws fresh) (Plus None ws) (GivenBy ws) (λ i x m. elim m [ inl k ↦ k | inr b ↦ absurd b ]) (λ i x m. inl m) t.1)
+    let t = absorb ws fresh NoGivens holds_fresh closed_none k
+    (compatible_within (things (Plus NoGivens ws)) (given ws) (only_given ws) g)
+    (fits_within (things (Plus NoGivens ws)) (given ws) (only_given ws) f) q in
+    (t.0, holds_iff (write_all ws fresh) (Plus NoGivens ws) (GivenBy ws) (λ i x m. elim m [ inl k ↦ k | inr b ↦ absurd b ]) (λ i x m. inl m) t.1)

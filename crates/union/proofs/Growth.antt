@@ -1,15 +1,15 @@
 -- How much a write adds: the revisions held afterwards are those held and the new ones. Assumes nothing.
 use mathlib.Core.Path.{◌≡◌, refl, ap, ap₂}
+use Rattle.std.specs.declared.cmp.Ordering.TheVariants.{Equal}
 use mathlib.Core.Bool.{false}
 use mathlib.Core.List.{List, [], ◌∷◌}
 use mathlib.Core.Logic.{inl, inr}
-use mathlib.Core.Option.{Option, none, some}
+use Rattle.std.specs.Prelude.{Option, None, Some}
 use Prim.Native.Nat.{ℕ, zero, suc, ◌+◌, ◌≤◌}
 use native.Mathlib.Omega.{arith}
 use lib.ListN.{length}
 use borrow.Author.Tests.{ltb-false}
 use Rattle.rules.specs.declared.Content.{Content}
-use Rattle.rules.specs.declared.Order.TheVariants.{Equal}
 use Rattle.rules.specs.declared.Revision.{Revision}
 use Rattle.rules.specs.Choice.{pick, how_many}
 use Rattle.rules.specs.Map.{Map, find}
@@ -39,8 +39,8 @@ add_length : (t : Tree) (e : Entry) → length (add t e) ≡ length t + new_at (
 add_length t e = go (find order_rev e.0 t) (sum_alter rev_order one e.0 (learn e.1) t)
   where
     go : (o : Option Node) → sum one (add t e) + on one o ≡ sum one t + one (learn e.1 o) → length (add t e) ≡ length t + new_at o
-    go none h = let a = length-sum t in let b = length-sum (add t e) in unfold one in omega arith
-    go (some c) h = let a = length-sum t in let b = length-sum (add t e) in unfold one in omega arith
+    go None h = let a = length-sum t in let b = length-sum (add t e) in unfold one in omega arith
+    go (Some c) h = let a = length-sum t in let b = length-sum (add t e) in unfold one in omega arith
 
 -- another revision's being new does not change
 new_stays : (t : Tree) (e : Entry) (es : List Entry) → ((x : Entry) → In x es → order_rev x.0 e.0 ≡ Equal → ⊥) → count_new (add t e) es ≡ count_new t es
@@ -56,10 +56,10 @@ add_all_length [] n b t h = omega arith
 add_all_length (y ∷ ys) zero b t h = absurd (omega arith)
 add_all_length (y ∷ ys) (suc n) b t h =
     let e : Entry = (revision (suc n) y, record { parent = newest_of n ys; content = b }) in
-    let a = add_all_length ys n none (add t e) (omega arith) in
+    let a = add_all_length ys n None (add t e) (omega arith) in
     let c = add_length t e in
-    let d = new_stays t e (along n ys none)
-    (λ x m q. let u = (along_numbers ys n none (omega arith) x m).high in
+    let d = new_stays t e (along n ys None)
+    (λ x m q. let u = (along_numbers ys n None (omega arith) x m).high in
     let v : x.0.number.0 ≡ suc n = ap (λ (r : Revision). r.number.0) (rev_order.same x.0 e.0 q) in
     omega arith) in
     omega arith
@@ -74,8 +74,8 @@ held_sum (d ∷ ds) = ap (λ (n : ℕ). length d.1.tree + n) (held_sum ds)
 
 size_on : (o : Option Document) → on document_size o ≡ length (tree_in o)
 unfolding document_size
-size_on none = refl
-size_on (some d) = refl
+size_on None = refl
+size_on (Some d) = refl
 
 -- what refusal 7 counts
 pub held_after : (r : Replica) (w : Write) → low_number w ≡ false
@@ -86,5 +86,5 @@ held_after r w e =
     let a = held_sum r.documents in
     let b = held_sum (added r w).documents in
     let c = size_on (find order_bytes w.id r.documents) in
-    let d = add_all_length (hashes w) w.number.0 (some w.content) (tree_of r w.id) (ltb-false w.number.0 (length (hashes w)) e) in
+    let d = add_all_length (hashes w) w.number.0 (Some w.content) (tree_of r w.id) (ltb-false w.number.0 (length (hashes w)) e) in
     omega arith

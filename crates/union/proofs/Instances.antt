@@ -1,16 +1,16 @@
 -- Demand 3 on writes written out: every hypothesis met, and what is left computed. Assumes nothing.
 use mathlib.Core.Path.{◌≡◌, refl, sym, subst}
+use Rattle.std.specs.declared.cmp.Ordering.TheVariants.{Less, Equal, Greater}
+use Rattle.std.specs.declared.cmp.Ordering.{Ordering}
 use mathlib.Core.Bool.{false, true≢false}
 use mathlib.Core.List.{List, [], ◌∷◌, ◌++◌}
 use mathlib.Core.Logic.{inl, inr, ◌↔◌}
-use mathlib.Core.Option.{Option, none, some}
+use Rattle.std.specs.Prelude.{Option, None, Some}
 use Prim.Native.Nat.{ℕ, zero, suc, ◌+◌, ◌≤◌, ◌<◌}
 use native.Mathlib.Omega.{arith}
 use lib.ListN.{length, replicate}
 use Rattle.rules.specs.declared.Content.TheVariants.{Live, Deleted}
 use Rattle.rules.specs.declared.Counts.{Counts}
-use Rattle.rules.specs.declared.Order.{Order}
-use Rattle.rules.specs.declared.Order.TheVariants.{Less, Equal, Greater}
 use Rattle.rules.specs.Bytes.{join, pieces}
 use Rattle.rules.specs.Choice.{any, how_many, first_that, maybe}
 use Rattle.rules.specs.Examples.{lot, on, short, shorts}
@@ -158,17 +158,17 @@ spent = alone 4294967295 (tree_of (write_all one fresh) lot)
 abbrev pub nearly : Replica
 nearly = alone 4294967294 (tree_of (write_all apart fresh) lot)
 
-find_alone : (i j : Id) (d e : Document) → find order_bytes j ((i, d) ∷ []) ≡ some e → (j ≡ i) × (e ≡ d)
+find_alone : (i j : Id) (d e : Document) → find order_bytes j ((i, d) ∷ []) ≡ Some e → (j ≡ i) × (e ≡ d)
 unfolding find
 find_alone i j d e = go (order_bytes j i) refl
   where
-    go : (o : Order) → order_bytes j i ≡ o → by_order o none (some d) none ≡ some e → (j ≡ i) × (e ≡ d)
+    go : (o : Ordering) → order_bytes j i ≡ o → by_order o None (Some d) None ≡ Some e → (j ≡ i) × (e ≡ d)
     go Less p q = absurd (none≢some q)
     go Equal p q = (bytes_order.same j i p, sym (some_inj q))
     go Greater p q = absurd (none≢some q)
 
 -- it is one where its tree is a document's of a replica
-alone_is : (r : Replica) → IsReplica r → (d : Document) → document_of r lot ≡ some d → (n : ℕ) → 1 ≤ n → n ≤ seq_most → IsReplica (alone n d.tree)
+alone_is : (r : Replica) → IsReplica r → (d : Document) → document_of r lot ≡ Some d → (n : ℕ) → 1 ≤ n → n ≤ seq_most → IsReplica (alone n d.tree)
 unfolding document_of revisions_held largest_seq
 alone_is r k d e n low high = record {
   ascending = (tt, tt);
@@ -196,8 +196,8 @@ unfolding tree_of
 alone_of r k e n low high = go (document_of r lot) refl e
   where
     go : (o : Option Document) → document_of r lot ≡ o → is_none o ≡ false → IsReplica (alone n (tree_in o))
-    go none q e = absurd (true≢false e)
-    go (some d) q e = alone_is r k d q n low high
+    go None q e = absurd (true≢false e)
+    go (Some d) q e = alone_is r k d q n low high
 
 -- what is computed of them
 record High : Type 0 where
@@ -251,20 +251,20 @@ counts a b c = record { changed = a; unchanged = b; refused = c }
 
 -- a document's leaves and its winner, each as number and first byte
 abbrev pub seen : Replica → Id → List (ℕ × ℕ) × Option (ℕ × ℕ)
-seen r i = (shorts (leaves (tree_of r i)), maybe none (λ a. some (short a)) (winner (tree_of r i)))
+seen r i = (shorts (leaves (tree_of r i)), maybe None (λ a. Some (short a)) (winner (tree_of r i)))
 
 -- one offer there, which changes, and one back, which adds nothing; the deleted leaf loses to the live
 -- one, and of the note one leaf is left; at the last sequence the pulls count as from fresh
 pub record Come : Type 0 where
   pub pair_there : (pull all_from (write_all one fresh) (write_all apart fresh)).0 ≡ counts 1 0 0
   pub pair_back : (pull all_from (there (write_all one fresh) (write_all apart fresh)) (write_all one fresh)).0 ≡ counts 0 1 0
-  pub pair : seen (back (write_all one fresh) (write_all apart fresh)) lot ≡ ((3, 0x70) ∷ [], some (3, 0x70))
+  pub pair : seen (back (write_all one fresh) (write_all apart fresh)) lot ≡ ((3, 0x70) ∷ [], Some (3, 0x70))
   pub offices_there : (pull all_from (write_all office fresh) (write_all field fresh)).0 ≡ counts 2 1 0
-  pub offices_lot : seen (back (write_all office fresh) (write_all field fresh)) lot ≡ ((3, 0x05) ∷ (2, 0x4c) ∷ [], some (2, 0x4c))
+  pub offices_lot : seen (back (write_all office fresh) (write_all field fresh)) lot ≡ ((3, 0x05) ∷ (2, 0x4c) ∷ [], Some (2, 0x4c))
   pub high_there : (pull all_from spent nearly).0 ≡ counts 1 0 0
   pub high_back : (pull all_from (there spent nearly) spent).0 ≡ counts 0 1 0
   pub high_seq : ((there spent nearly).seq.0 ≡ 4294967295) × ((back spent nearly).seq.0 ≡ 4294967295)
-  pub offices_note : seen (back (write_all office fresh) (write_all field fresh)) note ≡ ((3, 0x44) ∷ [], some (3, 0x44))
+  pub offices_note : seen (back (write_all office fresh) (write_all field fresh)) note ≡ ((3, 0x44) ∷ [], Some (3, 0x44))
 
 pub come : Come
 unfolding pull take_in count offers offers_in offers_of offer documents_after insert_by_seq path_of ancestry leaves write_all

@@ -1,17 +1,17 @@
 -- An accepted write on any replica leaves a replica, which holds what was held and what the path gives. Assumes nothing.
 use mathlib.Core.Path.{◌≡◌, refl, sym, ap, ◌∙◌, subst}
+use Rattle.std.specs.declared.cmp.Ordering.TheVariants.{Less, Equal, Greater}
+use Rattle.std.specs.declared.cmp.Ordering.{Ordering}
 use mathlib.Core.Bool.{Bool, true, false, ◌&&◌, true≢false}
 use mathlib.Core.List.{List, [], ◌∷◌}
 use mathlib.Core.Logic.{inl, inr}
-use mathlib.Core.Option.{Option, none, some}
+use Rattle.std.specs.Prelude.{Option, None, Some}
 use Prim.Native.Nat.{ℕ, suc, ◌+◌, ◌/◌, ◌≤◌, ◌<◌}
 use native.Mathlib.Omega.{arith}
 use lib.Dec.{eqb, leb, ltb}
 use lib.ListN.{length}
 use borrow.Author.Tests.{ltb-false, leb-false, eqb-false}
 use Rattle.rules.specs.declared.Content.{Content}
-use Rattle.rules.specs.declared.Order.{Order}
-use Rattle.rules.specs.declared.Order.TheVariants.{Less, Equal, Greater}
 use Rattle.rules.specs.declared.Revision.{Revision}
 use Rattle.rules.specs.declared.Seq.{Seq}
 use Rattle.rules.specs.Bytes.{Bytes}
@@ -40,12 +40,12 @@ use Rattle.union.proofs.Held.{Has, Own, Sound, closed_own, document_id, document
 -- ---- what the tests say when they fail
 
 other_parent_out : (t : Tree) (v : Revision) (c d : Node) → Has t (v, c) → other_parent t (v, d) ≡ false
-    → (p q : Revision) → c.parent ≡ some p → d.parent ≡ some q → p ≡ q
+    → (p q : Revision) → c.parent ≡ Some p → d.parent ≡ Some q → p ≡ q
 unfolding other_parent
 other_parent_out t v c d m e p q a b = same_rev_true p q (differ_same same_rev c.parent d.parent (rw m at e) p q a b)
 
 other_content_out : (t : Tree) (v : Revision) (c d : Node) → Has t (v, c) → other_content t (v, d) ≡ false
-    → (p q : Content) → c.content ≡ some p → d.content ≡ some q → p ≡ q
+    → (p q : Content) → c.content ≡ Some p → d.content ≡ Some q → p ≡ q
 unfolding other_content
 other_content_out t v c d m e p q a b = agree_true p q (differ_same agree c.content d.content (rw m at e) p q a b)
 
@@ -71,12 +71,12 @@ is_id i b e =
 module _ (w : Write) (q : IsWrite w) (k : Well w) where
   numbers : (x : Entry) → In x (gives w) → Numbers x w.number.0
   unfolding gives low_number
-  numbers x m = along_numbers (hashes w) w.number.0 (some w.content) (ltb-false w.number.0 (length (hashes w)) k.number_ok) x m
+  numbers x m = along_numbers (hashes w) w.number.0 (Some w.content) (ltb-false w.number.0 (length (hashes w)) k.number_ok) x m
 
   given_revision : (x : Entry) → In x (gives w) → IsRevision x.0
   unfolding gives hashes
   given_revision x m =
-      let i = along_hash (hashes w) w.number.0 (some w.content) x m in
+      let i = along_hash (hashes w) w.number.0 (Some w.content) x m in
       let n = numbers x m in
       let h = q.number in
       record {
@@ -86,9 +86,9 @@ module _ (w : Write) (q : IsWrite w) (k : Well w) where
         most = (let t = n.high in omega arith);
       }
 
-  given_content : (x : Entry) (c : Content) → In x (gives w) → x.1.content ≡ some c → IsContent c
+  given_content : (x : Entry) (c : Content) → In x (gives w) → x.1.content ≡ Some c → IsContent c
   unfolding gives
-  given_content x c m e = subst IsContent (some_inj (along_content (hashes w) w.number.0 (some w.content) x c m e)) q.content
+  given_content x c m e = subst IsContent (some_inj (along_content (hashes w) w.number.0 (Some w.content) x c m e)) q.content
 
   sound_w : (G : Givens) → Sound G → Sound (G ⊎w w)
   sound_w G s = record {
@@ -103,36 +103,36 @@ module _ (w : Write) (q : IsWrite w) (k : Well w) where
 module _ (r : Replica) (w : Write) (k : IsReplica r) (ok : Passed r w) where
   once : (v : Revision) (c d : Node) → In (v, c) (gives w) → In (v, d) (gives w) → c ≡ d
   unfolding gives low_number
-  once v c d m n = along_once (hashes w) w.number.0 (some w.content) (ltb-false w.number.0 (length (hashes w)) ok.form.number_ok) v c d m n
+  once v c d m n = along_once (hashes w) w.number.0 (Some w.content) (ltb-false w.number.0 (length (hashes w)) ok.form.number_ok) v c d m n
 
   mixed_parents : (i : Id) (v : Revision) (c d : Node) → Own r i (v, c) → w.id ≡ i → In (v, d) (gives w)
-      → (p q : Revision) → c.parent ≡ some p → d.parent ≡ some q → p ≡ q
+      → (p q : Revision) → c.parent ≡ Some p → d.parent ≡ Some q → p ≡ q
   mixed_parents i v c d m e n =
       other_parent_out (tree_of r i) v c d m
       (subst (λ (z : Id). other_parent (tree_of r z) (v, d) ≡ false) e (any_out (other_parent (tree_of r w.id)) (gives w) (v, d) ok.four n))
 
   mixed_contents : (i : Id) (v : Revision) (c d : Node) → Own r i (v, c) → w.id ≡ i → In (v, d) (gives w)
-      → (p q : Content) → c.content ≡ some p → d.content ≡ some q → p ≡ q
+      → (p q : Content) → c.content ≡ Some p → d.content ≡ Some q → p ≡ q
   mixed_contents i v c d m e n =
       other_content_out (tree_of r i) v c d m
       (subst (λ (z : Id). other_content (tree_of r z) (v, d) ≡ false) e (any_out (other_content (tree_of r w.id)) (gives w) (v, d) ok.five n))
 
-  same_parent : (c d : Node) (p q : Revision) → c ≡ d → c.parent ≡ some p → d.parent ≡ some q → p ≡ q
+  same_parent : (c d : Node) (p q : Revision) → c ≡ d → c.parent ≡ Some p → d.parent ≡ Some q → p ≡ q
   same_parent c d p q e a b = some_inj (sym a ∙ (ap (λ (z : Node). z.parent) e ∙ b))
 
-  same_content : (c d : Node) (p q : Content) → c ≡ d → c.content ≡ some p → d.content ≡ some q → p ≡ q
+  same_content : (c d : Node) (p q : Content) → c ≡ d → c.content ≡ Some p → d.content ≡ Some q → p ≡ q
   same_content c d p q e a b = some_inj (sym a ∙ (ap (λ (z : Node). z.content) e ∙ b))
 
   agreeing : (i : Id) → Agrees ((Own r ⊎w w) i)
   agreeing i v = record { parents = pp; contents = cs }
     where
-      pp : (c d : Node) (p q : Revision) → (Own r ⊎w w) i (v, c) → (Own r ⊎w w) i (v, d) → c.parent ≡ some p → d.parent ≡ some q → p ≡ q
+      pp : (c d : Node) (p q : Revision) → (Own r ⊎w w) i (v, c) → (Own r ⊎w w) i (v, d) → c.parent ≡ Some p → d.parent ≡ Some q → p ≡ q
       pp c d p q (inl m) (inl n) e f = same_parent c d p q (once v c d m.1 n.1) e f
       pp c d p q (inl m) (inr n) e f = sym (mixed_parents i v d c n m.0 m.1 q p f e)
       pp c d p q (inr m) (inl n) e f = mixed_parents i v c d m n.0 n.1 p q e f
       pp c d p q (inr m) (inr n) e f = same_parent c d p q (some_inj (sym m ∙ n)) e f
 
-      cs : (c d : Node) (p q : Content) → (Own r ⊎w w) i (v, c) → (Own r ⊎w w) i (v, d) → c.content ≡ some p → d.content ≡ some q → p ≡ q
+      cs : (c d : Node) (p q : Content) → (Own r ⊎w w) i (v, c) → (Own r ⊎w w) i (v, d) → c.content ≡ Some p → d.content ≡ Some q → p ≡ q
       cs c d p q (inl m) (inl n) e f = same_content c d p q (once v c d m.1 n.1) e f
       cs c d p q (inl m) (inr n) e f = sym (mixed_contents i v d c n m.0 m.1 q p f e)
       cs c d p q (inr m) (inl n) e f = mixed_contents i v c d m n.0 n.1 p q e f
@@ -152,7 +152,7 @@ unfolding largest_seq alter
 largest_alter i d n [] e h = omega arith
 largest_alter i d n (x ∷ xs) e h = go (order_bytes i x.0) refl (largest_alter i d n xs e)
   where
-    go : (o : Order) → order_bytes i x.0 ≡ o → (largest_seq xs ≤ n → largest_seq (alter order_bytes i (λ o. d) xs) ≡ suc n)
+    go : (o : Ordering) → order_bytes i x.0 ≡ o → (largest_seq xs ≤ n → largest_seq (alter order_bytes i (λ o. d) xs) ≡ suc n)
         → largest_seq (alter order_bytes i (λ o. d) (x ∷ xs)) ≡ suc n
     go Less p ih = rw p (omega arith)
     go Equal p ih = rw p (omega arith)
@@ -165,7 +165,7 @@ largest_in (y ∷ ys) x (inl q) = let e : x.1.seq.0 ≡ y.1.seq.0 = ap (λ (z : 
 largest_in (y ∷ ys) x (inr m) = let h = largest_in ys x m in omega arith
 
 module _ (r : Replica) (w : Write) (k : IsReplica r) where
-  seq_below : (i : Id) (d : Document) → document_of r i ≡ some d → d.seq.0 ≤ r.seq.0
+  seq_below : (i : Id) (d : Document) → document_of r i ≡ Some d → d.seq.0 ≤ r.seq.0
   unfolding document_of
   seq_below i d e =
       let h = largest_in r.documents (i, d) (find_in bytes_order r.documents i d e) in let t = k.seq_largest in omega arith
@@ -173,21 +173,21 @@ module _ (r : Replica) (w : Write) (k : IsReplica r) where
   -- a document afterwards is the written one or was there
   data Which (i : Id) (d : Document) : Type 0 where
     written : i ≡ w.id → d.seq.0 ≡ suc r.seq.0 → Which i d
-    kept : document_of r i ≡ some d → Which i d
+    kept : document_of r i ≡ Some d → Which i d
 
-  which : (i : Id) (d : Document) → document_of (added r w) i ≡ some d → Which i d
-  which i d = each_id w.id (λ j. document_of (added r w) j ≡ some d → Which j d)
+  which : (i : Id) (d : Document) → document_of (added r w) i ≡ Some d → Which i d
+  which i d = each_id w.id (λ j. document_of (added r w) j ≡ Some d → Which j d)
       (λ e. written refl (ap (λ (z : Document). z.seq.0) (some_inj (sym e ∙ added_here r w))))
       (λ j n e. kept (sym (added_other r w j n) ∙ e)) i
 
-  added_least : (i : Id) (d : Document) → document_of (added r w) i ≡ some d → 1 ≤ d.seq.0
+  added_least : (i : Id) (d : Document) → document_of (added r w) i ≡ Some d → 1 ≤ d.seq.0
   added_least i d e = go (which i d e)
     where
       go : Which i d → 1 ≤ d.seq.0
       go (written p s) = omega arith
       go (kept f) = (k.documents i d f).seq_least
 
-  added_own : (i : Id) (d : Document) → document_of (added r w) i ≡ some d → (j : Id) (e : Document) → document_of (added r w) j ≡ some e → e.seq ≡ d.seq → j ≡ i
+  added_own : (i : Id) (d : Document) → document_of (added r w) i ≡ Some d → (j : Id) (e : Document) → document_of (added r w) j ≡ Some e → e.seq ≡ d.seq → j ≡ i
   added_own i d f j e g s = go (which i d f) (which j e g)
     where
       eq : e.seq.0 ≡ d.seq.0
@@ -211,11 +211,11 @@ module _ (r : Replica) (w : Write) (k : IsReplica r) where
     where
       go : (o : Option Document) → find order_bytes w.id r.documents ≡ o → (is_none o && leb documents_most (length r.documents)) ≡ false
           → length (added r w).documents ≤ documents_most
-      go none e f =
+      go None e f =
           let a = length_alter bytes_order w.id (λ o. now r w) r.documents e in
           let b = leb-false documents_most (length r.documents) f in
           omega (arith, a)
-      go (some d) e f =
+      go (Some d) e f =
           let a = length_alter_some bytes_order w.id (λ o. now r w) r.documents d e in let b = k.documents_at_most in omega (arith, a)
 
   added_revisions : low_number w ≡ false → revisions_full r w ≡ false → length r.documents ≤ documents_most → revisions_held (added r w).documents ≤ revisions_most

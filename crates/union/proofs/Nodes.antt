@@ -1,6 +1,6 @@
 -- One node of a tree against the nodes that are given for its revision. Assumes nothing.
 use mathlib.Core.Path.{◌≡◌, refl, sym, ap, ◌∙◌}
-use mathlib.Core.Option.{Option, none, some}
+use Rattle.std.specs.Prelude.{Option, None, Some}
 use mathlib.Core.Logic.{◌⊎◌, inl, inr}
 use Rattle.rules.specs.declared.Content.{Content}
 use Rattle.rules.specs.declared.Revision.{Revision}
@@ -22,26 +22,26 @@ abbrev pub ◌⊕◌ : Set → Node → Set
 -- parent, and it has a content exactly if none gives the revision without one, as an older one
 pub record AtSome (c : Node) (S : Set) : Type 0 where
   pub known : (d : Node) × S d
-  pub parent_of : (p : Revision) → c.parent ≡ some p → (d : Node) × S d × (d.parent ≡ some p)
-  pub parent_to : (d : Node) (p : Revision) → S d → d.parent ≡ some p → c.parent ≡ some p
-  pub content_of_lem : (b : Content) → c.content ≡ some b → (d : Node) × S d × (d.content ≡ some b)
-  pub inner : c.content ≡ none → (d : Node) × S d × (d.content ≡ none)
-  pub leaf : (b : Content) → c.content ≡ some b → (d : Node) → S d → d.content ≡ none → ⊥
-  pub content_to : (d : Node) (b : Content) → ((x : Node) → S x → x.content ≡ none → ⊥) → S d → d.content ≡ some b → c.content ≡ some b
+  pub parent_of : (p : Revision) → c.parent ≡ Some p → (d : Node) × S d × (d.parent ≡ Some p)
+  pub parent_to : (d : Node) (p : Revision) → S d → d.parent ≡ Some p → c.parent ≡ Some p
+  pub content_of_lem : (b : Content) → c.content ≡ Some b → (d : Node) × S d × (d.content ≡ Some b)
+  pub inner : c.content ≡ None → (d : Node) × S d × (d.content ≡ None)
+  pub leaf : (b : Content) → c.content ≡ Some b → (d : Node) → S d → d.content ≡ None → ⊥
+  pub content_to : (d : Node) (b : Content) → ((x : Node) → S x → x.content ≡ None → ⊥) → S d → d.content ≡ Some b → c.content ≡ Some b
 
 -- what is found of a revision against the set: nothing, if the set is empty
 abbrev pub At : Option Node → Set → Type 0
-At none S = (c : Node) → S c → ⊥
-At (some c) S = AtSome c S
+At None S = (c : Node) → S c → ⊥
+At (Some c) S = AtSome c S
 
 -- no two of the set give different parents or different contents
 pub record Agree (S : Set) : Type 0 where
-  pub parents : (c d : Node) (p q : Revision) → S c → S d → c.parent ≡ some p → d.parent ≡ some q → p ≡ q
-  pub contents : (c d : Node) (p q : Content) → S c → S d → c.content ≡ some p → d.content ≡ some q → p ≡ q
+  pub parents : (c d : Node) (p q : Revision) → S c → S d → c.parent ≡ Some p → d.parent ≡ Some q → p ≡ q
+  pub contents : (c d : Node) (p q : Content) → S c → S d → c.content ≡ Some p → d.content ≡ Some q → p ≡ q
 
 pub at_iff : (o : Option Node) (S R : Set) → ((c : Node) → S c → R c) → ((c : Node) → R c → S c) → At o S → At o R
-at_iff none S R f g a = λ c r. a c (g c r)
-at_iff (some c) S R f g a = record {
+at_iff None S R f g a = λ c r. a c (g c r)
+at_iff (Some c) S R f g a = record {
   known = (a.known.0, f a.known.0 a.known.1);
   parent_of = λ p e. let t = a.parent_of p e in (t.0, f t.0 t.1, t.2);
   parent_to = λ d p r e. a.parent_to d p (g d r) e;
@@ -52,35 +52,35 @@ at_iff (some c) S R f g a = record {
 }
 
 -- the first of two options
-or_of : {A : Type 0} (x y : Option A) (p : A) → or_else x y ≡ some p → (x ≡ some p) ⊎ ((x ≡ none) × (y ≡ some p))
-or_of none y p e = inr (refl, e)
-or_of (some a) y p e = inl e
+or_of : {A : Type 0} (x y : Option A) (p : A) → or_else x y ≡ Some p → (x ≡ Some p) ⊎ ((x ≡ None) × (y ≡ Some p))
+or_of None y p e = inr (refl, e)
+or_of (Some a) y p e = inl e
 
-or_left : {A : Type 0} (x y : Option A) (p : A) → x ≡ some p → or_else x y ≡ some p
+or_left : {A : Type 0} (x y : Option A) (p : A) → x ≡ Some p → or_else x y ≡ Some p
 or_left x y p e = rw e refl
 
-or_right : {A : Type 0} (x y : Option A) (p : A) → ((q : A) → x ≡ some q → q ≡ p) → y ≡ some p → or_else x y ≡ some p
-or_right none y p h e = e
-or_right (some a) y p h e = ap some (h a refl)
+or_right : {A : Type 0} (x y : Option A) (p : A) → ((q : A) → x ≡ Some q → q ≡ p) → y ≡ Some p → or_else x y ≡ Some p
+or_right None y p h e = e
+or_right (Some a) y p h e = ap Some (h a refl)
 
-keep_of : (x y : Option Content) (b : Content) → keeps x y ≡ some b → (x ≡ none → ⊥) × (y ≡ some b)
-keep_of none y b e = absurd (none≢some e)
-keep_of (some a) y b e = (λ n. none≢some (sym n), e)
+keep_of : (x y : Option Content) (b : Content) → keeps x y ≡ Some b → (x ≡ None → ⊥) × (y ≡ Some b)
+keep_of None y b e = absurd (none≢some e)
+keep_of (Some a) y b e = (λ n. none≢some (sym n), e)
 
-keep_to : (x y : Option Content) (b : Content) → (x ≡ none → ⊥) → y ≡ some b → keeps x y ≡ some b
-keep_to none y b n e = absurd (n refl)
-keep_to (some a) y b n e = e
+keep_to : (x y : Option Content) (b : Content) → (x ≡ None → ⊥) → y ≡ Some b → keeps x y ≡ Some b
+keep_to None y b n e = absurd (n refl)
+keep_to (Some a) y b n e = e
 
-keep_none : (x y : Option Content) → keeps x y ≡ none → (x ≡ none) ⊎ (y ≡ none)
-keep_none none y e = inl refl
-keep_none (some a) y e = inr e
+keep_none : (x y : Option Content) → keeps x y ≡ None → (x ≡ None) ⊎ (y ≡ None)
+keep_none None y e = inl refl
+keep_none (Some a) y e = inr e
 
-pub by_option : {A : Type 0} {X : Type 0} (o : Option A) → (o ≡ none → X) → ((a : A) → o ≡ some a → X) → X
-by_option none f g = f refl
-by_option (some a) f g = g a refl
+pub by_option : {A : Type 0} {X : Type 0} (o : Option A) → (o ≡ None → X) → ((a : A) → o ≡ Some a → X) → X
+by_option None f g = f refl
+by_option (Some a) f g = g a refl
 
-pub learn_at : (o : Option Node) (x : Node) (S : Set) → At o S → Agree (S ⊕ x) → At (some (learn x o)) (S ⊕ x)
-learn_at none x S a g = record {
+pub learn_at : (o : Option Node) (x : Node) (S : Set) → At o S → Agree (S ⊕ x) → At (Some (learn x o)) (S ⊕ x)
+learn_at None x S a g = record {
   known = (x, inl refl);
   parent_of = λ p e. (x, inl refl, e);
   parent_to = λ d p r e. elim r [ inl q ↦ ap (λ (c : Node). c.parent) (sym q) ∙ e | inr s ↦ absurd (a d s) ];
@@ -89,7 +89,7 @@ learn_at none x S a g = record {
   leaf = λ b e d r n. elim r [ inl q ↦ none≢some (sym n ∙ (ap (λ (c : Node). c.content) q ∙ e)) | inr s ↦ a d s ];
   content_to = λ d b h r e. elim r [ inl q ↦ ap (λ (c : Node). c.content) (sym q) ∙ e | inr s ↦ absurd (a d s) ];
 }
-learn_at (some c) x S a g = record {
+learn_at (Some c) x S a g = record {
   known = (a.known.0, inr a.known.1);
   parent_of = λ p e. elim (or_of c.parent x.parent p e) [
     | inl q ↦ (let t = a.parent_of p q in (t.0, inr t.1, t.2))
@@ -114,13 +114,13 @@ learn_at (some c) x S a g = record {
     | inl q ↦ by_option a.known.0.content
         (λ n. absurd (h a.known.0 (inr a.known.1) n))
         (λ t z. a.content_to a.known.0 t (λ y s n. h y (inr s) n) a.known.1 z
-        ∙ ap some (g.contents a.known.0 x t b (inr a.known.1) (inl refl) z (ap (λ (c : Node). c.content) (sym q) ∙ e)))
+        ∙ ap Some (g.contents a.known.0 x t b (inr a.known.1) (inl refl) z (ap (λ (c : Node). c.content) (sym q) ∙ e)))
     | inr s ↦ a.content_to d b (λ y s n. h y (inr s) n) s e
   ]);
 }
 
 -- two options with the same values
-pub opt_ext : {A : Type 0} (x y : Option A) → ((a : A) → x ≡ some a → y ≡ some a) → ((a : A) → y ≡ some a → x ≡ some a) → x ≡ y
-opt_ext none none f g = refl
-opt_ext none (some b) f g = g b refl
-opt_ext (some a) y f g = sym (f a refl)
+pub opt_ext : {A : Type 0} (x y : Option A) → ((a : A) → x ≡ Some a → y ≡ Some a) → ((a : A) → y ≡ Some a → x ≡ Some a) → x ≡ y
+opt_ext None None f g = refl
+opt_ext None (Some b) f g = g b refl
+opt_ext (Some a) y f g = sym (f a refl)

@@ -3,7 +3,7 @@ use mathlib.Core.Path.{◌≡◌, refl, sym, ap, ◌∙◌, subst}
 use mathlib.Core.Bool.{Bool, true, false, true≢false}
 use mathlib.Core.List.{List, [], ◌∷◌}
 use mathlib.Core.Logic.{◌⊎◌, inl, inr, ◌↔◌}
-use mathlib.Core.Option.{Option, none, some}
+use Rattle.std.specs.Prelude.{Option, None, Some}
 use Prim.Native.Nat.{ℕ, zero, suc, ◌+◌, ◌≤◌, ◌<◌}
 use native.Mathlib.Omega.{arith}
 use lib.Dec.{leb, ltb}
@@ -57,16 +57,16 @@ module _ (t : Tree) (k : IsTree t) where
   parent_given n r c m e = go c.parent refl
     where
       go : (o : Option Revision) → c.parent ≡ o → newest_of n (maybe [] (ancestry n t) o) ≡ o
-      go none q = refl
-      go (some p) q =
+      go None q = refl
+      go (Some p) q =
           let u = (closed_tree t k).down (r, c) p m q in
           let h = low (p, u.0) u.1 in
           let l = k.lower r p (c, m, q) in
           at_number n u.0 u.1 (omega arith) (omega arith)
         where
-          at_number : (n : ℕ) (d : Node) → Has t (p, d) → p.number.0 ≡ n → 0 < n → newest_of n (ancestry n t p) ≡ some p
+          at_number : (n : ℕ) (d : Node) → Has t (p, d) → p.number.0 ≡ n → 0 < n → newest_of n (ancestry n t p) ≡ Some p
           at_number zero d i z h = absurd (omega arith)
-          at_number (suc n) d i z h = rw (path_step n p d i) (ap some (rev_path (revision (suc n) p.hash) p (sym z) refl))
+          at_number (suc n) d i z h = rw (path_step n p d i) (ap Some (rev_path (revision (suc n) p.hash) p (sym z) refl))
 
   head_entry : (n : ℕ) (r : Revision) (c : Node) (b : Option Content) → Has t (r, c) → r.number.0 ≡ suc n → c.content ≡ b
       → ◌≡◌ {A = Entry} (revision (suc n) r.hash, record { parent = newest_of n (above c n); content = b }) (r, c)
@@ -80,19 +80,19 @@ module _ (t : Tree) (k : IsTree t) where
   unfolding along above
   path_known zero r c b m e q x i = absurd (let h = low (r, c) m in omega arith)
   path_known (suc n) r c b m e q x i =
-      go (subst (λ (z : List Hash). In x (along (suc n) z b)) (path_step n r c m) i) (λ p d j z f. path_known n p d none j z f x)
+      go (subst (λ (z : List Hash). In x (along (suc n) z b)) (path_step n r c m) i) (λ p d j z f. path_known n p d None j z f x)
     where
       deep : (o : Option Revision) → c.parent ≡ o
-          → ((p : Revision) (d : Node) → Has t (p, d) → p.number.0 ≡ n → d.content ≡ none → In x (along n (ancestry n t p) none) → Has t x)
-          → In x (along n (maybe [] (ancestry n t) o) none) → Has t x
-      deep none f ih j = absurd j
-      deep (some p) f ih j =
+          → ((p : Revision) (d : Node) → Has t (p, d) → p.number.0 ≡ n → d.content ≡ None → In x (along n (ancestry n t p) None) → Has t x)
+          → In x (along n (maybe [] (ancestry n t) o) None) → Has t x
+      deep None f ih j = absurd j
+      deep (Some p) f ih j =
           let u = (closed_tree t k).down (r, c) p m f in
           let l = k.lower r p (c, m, f) in
           ih p u.0 u.1 (omega arith) u.2 j
 
       go : In x (along (suc n) (r.hash ∷ above c n) b)
-          → ((p : Revision) (d : Node) → Has t (p, d) → p.number.0 ≡ n → d.content ≡ none → In x (along n (ancestry n t p) none) → Has t x)
+          → ((p : Revision) (d : Node) → Has t (p, d) → p.number.0 ≡ n → d.content ≡ None → In x (along n (ancestry n t p) None) → Has t x)
           → Has t x
       go (inl z) ih = subst (λ (y : Entry). Has t y) (sym (z ∙ head_entry n r c b m e q)) m
       go (inr j) ih = deep c.parent refl ih j
@@ -112,8 +112,8 @@ module _ (t : Tree) (k : IsTree t) where
       subst (λ (z : List Hash). Sized hash_size z) (sym (path_step n r c m)) ((k.revisions r (c, m)).size, go c.parent refl (λ p d i. path_sized n p d i))
     where
       go : (o : Option Revision) → c.parent ≡ o → ((p : Revision) (d : Node) → Has t (p, d) → Sized hash_size (ancestry n t p)) → Sized hash_size (maybe [] (ancestry n t) o)
-      go none e ih = tt
-      go (some p) e ih = let u = (closed_tree t k).down (r, c) p m e in ih p u.0 u.1
+      go None e ih = tt
+      go (Some p) e ih = let u = (closed_tree t k).down (r, c) p m e in ih p u.0 u.1
 
   path_bytes : (n : ℕ) (r : Revision) (c : Node) → Has t (r, c) → AllBytes (ancestry n t r)
   unfolding above ancestry
@@ -122,8 +122,8 @@ module _ (t : Tree) (k : IsTree t) where
       subst AllBytes (sym (path_step n r c m)) ((k.revisions r (c, m)).bytes, go c.parent refl (λ p d i. path_bytes n p d i))
     where
       go : (o : Option Revision) → c.parent ≡ o → ((p : Revision) (d : Node) → Has t (p, d) → AllBytes (ancestry n t p)) → AllBytes (maybe [] (ancestry n t) o)
-      go none e ih = tt
-      go (some p) e ih = let u = (closed_tree t k).down (r, c) p m e in ih p u.0 u.1
+      go None e ih = tt
+      go (Some p) e ih = let u = (closed_tree t k).down (r, c) p m e in ih p u.0 u.1
 
   -- ---- the offer of a leaf
 
@@ -131,25 +131,25 @@ module _ (t : Tree) (k : IsTree t) where
   unfolding offer path_of
   offer_hashes i a h = hashes_join (offer i t a) (path_of t a.rev) refl (path_sized a.rev.number.0 a.rev h.0 h.1)
 
-  offer_gives : (i : Id) (a : LeafOf) → HasContent t a.rev a.content → gives (offer i t a) ≡ along a.rev.number.0 (path_of t a.rev) (some a.content)
+  offer_gives : (i : Id) (a : LeafOf) → HasContent t a.rev a.content → gives (offer i t a) ≡ along a.rev.number.0 (path_of t a.rev) (Some a.content)
   unfolding gives offer
-  offer_gives i a h = ap (λ (hs : List Hash). along a.rev.number.0 hs (some a.content)) (offer_hashes i a h)
+  offer_gives i a h = ap (λ (hs : List Hash). along a.rev.number.0 hs (Some a.content)) (offer_hashes i a h)
 
   offer_known : (i : Id) (a : LeafOf) → HasContent t a.rev a.content → (x : Entry) → In x (gives (offer i t a)) → Has t x
   unfolding path_of
-  offer_known i a h x m = path_known a.rev.number.0 a.rev h.0 (some a.content) h.1 refl h.2 x (rw (offer_gives i a h) at m)
+  offer_known i a h x m = path_known a.rev.number.0 a.rev h.0 (Some a.content) h.1 refl h.2 x (rw (offer_gives i a h) at m)
 
   -- every revision is on the path of some leaf
   abbrev OnPath : Id → Entry → Type 0
   OnPath i x = (a : LeafOf) × HasContent t a.rev a.content × In x (gives (offer i t a))
 
-  on_own : (i : Id) (x : Entry) → Has t x → (b : Content) → x.1.content ≡ some b → OnPath i x
+  on_own : (i : Id) (x : Entry) → Has t x → (b : Content) → x.1.content ≡ Some b → OnPath i x
   unfolding path_of
   on_own i x m b e =
       let a = leaf_of x.0 b in
-      (a, (x.1, m, e), rw (offer_gives i a (x.1, m, e)) (self_on x.0.number.0 x.0 x.1 (some b) m refl e))
+      (a, (x.1, m, e), rw (offer_gives i a (x.1, m, e)) (self_on x.0.number.0 x.0 x.1 (Some b) m refl e))
 
-  on_childs : (i : Id) (x y : Entry) → Has t x → y.1.parent ≡ some x.0 → OnPath i y → OnPath i x
+  on_childs : (i : Id) (x y : Entry) → Has t x → y.1.parent ≡ Some x.0 → OnPath i y → OnPath i x
   on_childs i x y m p u =
       let d = (write_closed (offer i t u.0)).down y x.0 u.2 p in
       let z = offer_known i u.0 u.1 (x.0, d.0) d.1 in
@@ -178,8 +178,8 @@ module _ (t : Tree) (k : IsTree t) where
   path_length (suc n) r = go (parent_in (find order_rev r t)) (λ p. path_length n p)
     where
       go : (o : Option Revision) → ((p : Revision) → length (ancestry n t p) ≤ n) → suc (length (maybe [] (ancestry n t) o)) ≤ suc n
-      go none ih = omega arith
-      go (some p) ih = let h = ih p in omega arith
+      go None ih = omega arith
+      go (Some p) ih = let h = ih p in omega arith
 
 -- ---- nor longer than the tree: each number once
 
@@ -233,8 +233,8 @@ path_in_tree t k (suc n) r c m e = rw (path_step t k n r c m) (go c.parent refl 
 
     go : (o : Option Revision) → c.parent ≡ o → ((p : Revision) (d : Node) → Has t (p, d) → p.number.0 ≡ n → length (ancestry n t p) ≤ up_to n t)
         → suc (length (maybe [] (ancestry n t) o)) ≤ up_to (suc n) t
-    go none q ih = let h = more in omega arith
-    go (some p) q ih =
+    go None q ih = let h = more in omega arith
+    go (Some p) q ih =
         let h = more in
         let u = (closed_tree t k).down (r, c) p m q in
         let l = k.lower r p (c, m, q) in
@@ -318,7 +318,7 @@ module _ (r : Replica) (k : IsReplica r) where
     pub document : Document
     in_replica : In (id, document) r.documents
     pub is : IsDocument r id document
-    pub held : document_of r id ≡ some document
+    pub held : document_of r id ≡ Some document
     pub leaf : LeafOf
     pub content : HasContent document.tree leaf.rev leaf.content
     pub offered : w ≡ offer id document.tree leaf
@@ -392,10 +392,10 @@ module _ (r : Replica) (k : IsReplica r) where
       go i d j h a c =
           let n = a.rev.number.0 in
           let few = path_length d.tree h.tree n a.rev in
-          let some-hash = positive n d.tree a.rev (h.tree.revisions a.rev (c.0, c.1)).least in
+          let Some-hash = positive n d.tree a.rev (h.tree.revisions a.rev (c.0, c.1)).least in
           record {
             id_ok = id_good i h.id;
-            path_ok = path_good (offer i d.tree a) (path_of d.tree a.rev) refl (path_sized d.tree h.tree n a.rev c.0 c.1) some-hash
+            path_ok = path_good (offer i d.tree a) (path_of d.tree a.rev) refl (path_sized d.tree h.tree n a.rev c.0 c.1) Some-hash
                 (path_room_lem i d j h a c);
             number_ok = rw (offer_hashes d.tree h.tree i a c) (le-ltb n (length (path_of d.tree a.rev)) few);
           }

@@ -1,9 +1,12 @@
 -- A pull: its counts, what it leaves alone, and that it leaves what both replicas held. Assumes nothing.
 use mathlib.Core.Path.{◌≡◌, refl, sym, ap, ap₂, ◌∙◌, subst}
+use Rattle.rules.specs.declared.Refusal.{Refusal}
+use Rattle.rules.specs.declared.Outcome.{Outcome}
+use Rattle.std.specs.Prelude.{Result, Ok, Err}
 use mathlib.Core.Bool.{Bool, true, false}
 use mathlib.Core.List.{List, [], ◌∷◌, ◌++◌, map}
 use mathlib.Core.Logic.{inl, inr}
-use mathlib.Core.Option.{Option, none, some}
+use Rattle.std.specs.Prelude.{Option, None, Some}
 use Prim.Native.Nat.{ℕ, suc, ◌+◌, ◌≤◌}
 use native.Mathlib.Omega.{arith}
 use lib.Dec.{leb, ltb}
@@ -12,8 +15,6 @@ use Rattle.rules.specs.declared.Content.{Content}
 use Rattle.rules.specs.declared.Counts.{Counts}
 use Rattle.rules.specs.declared.Outcome.TheVariants.{Changed, Unchanged}
 use Rattle.rules.specs.declared.Seq.{Seq}
-use Rattle.rules.specs.declared.Written.{Written}
-use Rattle.rules.specs.declared.Written.TheVariants.{Accepted, Refused}
 use Rattle.rules.specs.Choice.{pick, maybe, how_many}
 use Rattle.rules.specs.Pull.{offer, offers_of, offers_in, offers, count, no_counts, take_in, pull}
 use Rattle.rules.specs.Read.{leaves, insert_by_seq, documents_after}
@@ -34,11 +35,11 @@ use Rattle.union.proofs.Offers.{offers_out, offers_own, offers_range, offers_wel
 
 -- ---- the counts
 
-pub count_one : (o : Written) (c : Counts) → total (count o c) ≡ suc (total c)
+pub count_one : (o : Result Outcome Refusal) (c : Counts) → total (count o c) ≡ suc (total c)
 unfolding count
-count_one (Accepted Changed) c = omega arith
-count_one (Accepted Unchanged) c = omega arith
-count_one (Refused n) c = omega arith
+count_one (Ok Changed) c = omega arith
+count_one (Ok Unchanged) c = omega arith
+count_one (Err n) c = omega arith
 
 pub take_in_total : (ws : List Write) (c : Counts) (r : Replica) → total (take_in ws (c, r)).0 ≡ length ws + total c
 unfolding take_in
@@ -51,30 +52,30 @@ unfolding pull
 counts_total s source target = let h = take_in_total (offers s source) no_counts target in omega arith
 
 -- a count that rises by one at each answer of its kind, and only there, is what it was and how many there are
-take-in_each : (f : Counts → ℕ) (is : Written → Bool) → ((o : Written) (c : Counts) → f (count o c) ≡ pick (is o) 1 0 + f c)
+take-in_each : (f : Counts → ℕ) (is : Result Outcome Refusal → Bool) → ((o : Result Outcome Refusal) (c : Counts) → f (count o c) ≡ pick (is o) 1 0 + f c)
     → (ws : List Write) (c : Counts) (r : Replica) → f (take_in ws (c, r)).0 ≡ how_many is (answers r ws) + f c
 unfolding take_in answers how_many
 take-in_each f is one [] c r = omega arith
 take-in_each f is one (w ∷ ws) c r =
     let o = write r w in let a = take-in_each f is one ws (count o.0 c) o.1 in let b = one o.0 c in omega arith
 
-changed_one : (o : Written) (c : Counts) → (count o c).changed ≡ pick (is_changed o) 1 0 + c.changed
+changed_one : (o : Result Outcome Refusal) (c : Counts) → (count o c).changed ≡ pick (is_changed o) 1 0 + c.changed
 unfolding count
-changed_one (Accepted Changed) c = omega arith
-changed_one (Accepted Unchanged) c = omega arith
-changed_one (Refused n) c = omega arith
+changed_one (Ok Changed) c = omega arith
+changed_one (Ok Unchanged) c = omega arith
+changed_one (Err n) c = omega arith
 
-unchanged_one : (o : Written) (c : Counts) → (count o c).unchanged ≡ pick (is_unchanged o) 1 0 + c.unchanged
+unchanged_one : (o : Result Outcome Refusal) (c : Counts) → (count o c).unchanged ≡ pick (is_unchanged o) 1 0 + c.unchanged
 unfolding count
-unchanged_one (Accepted Changed) c = omega arith
-unchanged_one (Accepted Unchanged) c = omega arith
-unchanged_one (Refused n) c = omega arith
+unchanged_one (Ok Changed) c = omega arith
+unchanged_one (Ok Unchanged) c = omega arith
+unchanged_one (Err n) c = omega arith
 
-refused_one : (o : Written) (c : Counts) → (count o c).refused ≡ pick (is_refused o) 1 0 + c.refused
+refused_one : (o : Result Outcome Refusal) (c : Counts) → (count o c).refused ≡ pick (is_refused o) 1 0 + c.refused
 unfolding count
-refused_one (Accepted Changed) c = omega arith
-refused_one (Accepted Unchanged) c = omega arith
-refused_one (Refused n) c = omega arith
+refused_one (Ok Changed) c = omega arith
+refused_one (Ok Unchanged) c = omega arith
+refused_one (Err n) c = omega arith
 
 pub counts_each : (s : Seq) (source target : Replica) → CountsEach (pull s source target).0 (answers target (offers s source))
 unfolding pull
@@ -105,8 +106,8 @@ leaves_most [] = omega arith
 leaves_most (x ∷ t) = go x.1.content (leaves_most t)
   where
     go : (o : Option Content) → length (leaves t) ≤ length t → length (leaves t ++ maybe [] (λ c. record { rev = x.0; content = c } ∷ []) o) ≤ suc (length t)
-    go none h = simp length-append (omega arith)
-    go (some c) h = simp length-append (omega arith)
+    go None h = simp length-append (omega arith)
+    go (Some c) h = simp length-append (omega arith)
 
 insert_count : (d : Id × Document) (ds : List (Id × Document)) → leaf_count (insert_by_seq d ds) ≡ leaf_count (d ∷ ds)
 unfolding insert_by_seq leaf_count

@@ -1,9 +1,12 @@
 -- One computed test of the hypotheses on a list of writes: well-formed, compatible, and fitting the room. Assumes nothing.
 use mathlib.Core.Path.{◌≡◌, refl, sym, ap, ◌∙◌, subst}
+use Rattle.rules.specs.declared.Refusal.{Refusal}
+use Rattle.rules.specs.declared.Outcome.{Outcome}
+use Rattle.std.specs.Prelude.{Result, Ok, Err}
 use mathlib.Core.Bool.{Bool, true, false, not, ◌&&◌, ◌||◌, true≢false}
 use mathlib.Core.List.{List, [], ◌∷◌}
 use mathlib.Core.Logic.{inl, inr}
-use mathlib.Core.Option.{Option, none, some}
+use Rattle.std.specs.Prelude.{Option, None, Some}
 use Prim.Native.Nat.{ℕ, ◌≤◌}
 use lib.Dec.{eqb, leb, ltb}
 use lib.ListN.{length}
@@ -12,8 +15,6 @@ use Rattle.rules.specs.declared.Content.{Content}
 use Rattle.rules.specs.declared.Content.TheVariants.{Live, Deleted}
 use Rattle.rules.specs.declared.Refusal.TheVariants.{SequenceSpent}
 use Rattle.rules.specs.declared.Revision.{Revision}
-use Rattle.rules.specs.declared.Written.{Written}
-use Rattle.rules.specs.declared.Written.TheVariants.{Accepted, Refused}
 use Rattle.rules.specs.Bytes.{Bytes}
 use Rattle.rules.specs.Choice.{any, first_that}
 use Rattle.rules.specs.Order.{order_bytes, is_equal, same_rev}
@@ -53,9 +54,9 @@ content_if : (c : Content) → no_content c ≡ false → IsContent c
 content_if (Live n) e = leb-false labels n e
 content_if Deleted e = tt
 
-none_if : {A : Type 0} (o : Option A) → not (is_none o) ≡ false → o ≡ none
-none_if none e = refl
-none_if (some a) e = absurd (true≢false e)
+none_if : {A : Type 0} (o : Option A) → not (is_none o) ≡ false → o ≡ None
+none_if None e = refl
+none_if (Some a) e = absurd (true≢false e)
 
 well_formed_if : (w : Write) → malformed w ≡ false → WellFormed w
 unfolding malformed
@@ -192,9 +193,9 @@ ready_part ws vs h k = record {
 
 -- ---- and of the sequence: none of the answers is 8
 
-unfoldable pub is_spent : Written → Bool
-is_spent (Accepted o) = false
-is_spent (Refused n) = eqb (refusal_number n) (refusal_number SequenceSpent)
+unfoldable pub is_spent : Result Outcome Refusal → Bool
+is_spent (Ok o) = false
+is_spent (Err n) = eqb (refusal_number n) (refusal_number SequenceSpent)
 
 pub suffices_if : (ws : List Write) (r : Replica) → any is_spent (answers r ws) ≡ false → SeqSuffices ws r
 unfolding answers is_spent

@@ -2,7 +2,7 @@
 use mathlib.Core.Path.{◌≡◌, refl, sym, ap}
 use mathlib.Core.Bool.{Bool, true, false, not, ◌||◌, true≢false}
 use mathlib.Core.Logic.{inl, inr}
-use mathlib.Core.Option.{none, some}
+use Rattle.std.specs.Prelude.{None, Some}
 use Prim.Native.Nat.{◌%◌}
 use native.Mathlib.Omega.{arith}
 use lib.Dec.{eqb, ltb}
@@ -23,7 +23,7 @@ pub record Well (w : Write) : Type 0 where
   pub path_ok : bad_path w ≡ false
   pub number_ok : low_number w ≡ false
 
-pub well : (w : Write) → first_that (form_refusals w) ≡ none → Well w
+pub well : (w : Write) → first_that (form_refusals w) ≡ None → Well w
 well w e = let (one, (two, (three, end))) = none_holds (form_refusals w) e in record { id_ok = one; path_ok = two; number_ok = three }
 
 -- the three parts of refusal 2
@@ -46,7 +46,7 @@ pub record Passed (r : Replica) (w : Write) : Type 0 where
   pub seven : revisions_full r w ≡ false
   pub eight : sequence_spent r w ≡ false
 
-pub passed : (r : Replica) (w : Write) → first_that (write_refusals r w) ≡ none → Passed r w
+pub passed : (r : Replica) (w : Write) → first_that (write_refusals r w) ≡ None → Passed r w
 unfolding write_refusals room_refusals
 passed r w e =
     let (one, (two, (three, (four, (five, (six, (seven, (eight, end)))))))) = none_holds (write_refusals r w) e in
@@ -59,12 +59,12 @@ passed r w e =
       eight = eight;
     }
 
-pub unrefused : (r : Replica) (w : Write) → Passed r w → first_that (write_refusals r w) ≡ none
+pub unrefused : (r : Replica) (w : Write) → Passed r w → first_that (write_refusals r w) ≡ None
 unfolding write_refusals room_refusals first_that
 unrefused r w p = rw (p.form.id_ok, p.form.path_ok, p.form.number_ok, p.four, p.five, p.six, p.seven, p.eight) refl
 
 -- 8 is answered only where the sequence is spent
-pub spent_only : (r : Replica) (w : Write) → first_that (write_refusals r w) ≡ some SequenceSpent → sequence_spent r w ≡ true
+pub spent_only : (r : Replica) (w : Write) → first_that (write_refusals r w) ≡ Some SequenceSpent → sequence_spent r w ≡ true
 unfolding write_refusals room_refusals
 spent_only r w e = go (first_holds (write_refusals r w) SequenceSpent e)
   where

@@ -1,9 +1,12 @@
 -- A replica against a set of entries for each id: a write adds its entries to the set, and is accepted where the set stays compatible and fits. Assumes nothing.
 use mathlib.Core.Path.{◌≡◌, refl, sym, ◌∙◌, subst}
+use Rattle.rules.specs.declared.Refusal.{Refusal}
+use Rattle.rules.specs.declared.Outcome.{Outcome}
+use Rattle.std.specs.Prelude.{Result, Ok, Err}
 use mathlib.Core.Bool.{Bool, true, false, ◌&&◌, true≢false}
 use mathlib.Core.List.{List, [], ◌∷◌}
 use mathlib.Core.Logic.{inl, inr}
-use mathlib.Core.Option.{Option, none, some}
+use Rattle.std.specs.Prelude.{Option, None, Some}
 use Prim.Native.Nat.{◌+◌, ◌≤◌}
 use native.Mathlib.Omega.{arith}
 use lib.Dec.{eqb, leb}
@@ -11,8 +14,6 @@ use lib.ListN.{length}
 use borrow.Author.Tests.{le-ltb, lt-leb}
 use Rattle.rules.specs.declared.Outcome.TheVariants.{Changed, Unchanged}
 use Rattle.rules.specs.declared.Refusal.TheVariants.{SequenceSpent}
-use Rattle.rules.specs.declared.Written.{Written}
-use Rattle.rules.specs.declared.Written.TheVariants.{Accepted, Refused}
 use Rattle.rules.specs.Choice.{pick, any, first_that}
 use Rattle.rules.specs.Map.{find, Ascending}
 use Rattle.rules.specs.Order.{order_bytes}
@@ -35,8 +36,8 @@ use Rattle.union.proofs.Cases.{accepted, added_here, added_other, each_id, now}
 
 -- a document is there exactly if the set has an entry, and its tree comes to the set
 abbrev pub DocAt : Option Document → Given → Type 0
-DocAt none G = (x : Entry) → G x → ⊥
-DocAt (some d) G = Rep d.tree G × ((x : Entry) × G x)
+DocAt None G = (x : Entry) → G x → ⊥
+DocAt (Some d) G = Rep d.tree G × ((x : Entry) × G x)
 
 -- the replica holds exactly these sets
 pub record Holds (r : Replica) (G : Givens) : Type 0 where
@@ -44,21 +45,21 @@ pub record Holds (r : Replica) (G : Givens) : Type 0 where
   pub at : (i : Id) → DocAt (document_of r i) (G i)
 
 doc_iff : (o : Option Document) (G H : Given) → ((x : Entry) → G x → H x) → ((x : Entry) → H x → G x) → DocAt o G → DocAt o H
-doc_iff none G H f g a = λ x h. a x (g x h)
-doc_iff (some d) G H f g a = (rep_iff d.tree G H f g a.0, (a.1.0, f a.1.0 a.1.1))
+doc_iff None G H f g a = λ x h. a x (g x h)
+doc_iff (Some d) G H f g a = (rep_iff d.tree G H f g a.0, (a.1.0, f a.1.0 a.1.1))
 
 pub holds_iff : (r : Replica) (G H : Givens) → ((i : Id) (x : Entry) → G i x → H i x) → ((i : Id) (x : Entry) → H i x → G i x) → Holds r G → Holds r H
 holds_iff r G H f g a = record { ascending = a.ascending; at = λ i. doc_iff (document_of r i) (G i) (H i) (f i) (g i) (a.at i) }
 
 pub rep_of : (o : Option Document) (G : Given) → DocAt o G → Rep (tree_in o) G
-rep_of none G a = rep_empty G a
-rep_of (some d) G a = a.0
+rep_of None G a = rep_empty G a
+rep_of (Some d) G a = a.0
 
 some_entry : (w : Write) → Well w → (x : Entry) × In x (gives w)
 unfolding gives along
 some_entry w k = go (hashes w) (path_parts w k.path_ok).1
   where
-    go : (hs : List Hash) → eqb (length hs) 0 ≡ false → (x : Entry) × In x (along w.number.0 hs (some w.content))
+    go : (hs : List Hash) → eqb (length hs) 0 ≡ false → (x : Entry) × In x (along w.number.0 hs (Some w.content))
     go [] e = absurd (true≢false e)
     go (h ∷ hs) e = (_, inl refl)
 
@@ -111,8 +112,8 @@ module _ (r : Replica) (w : Write) (G : Givens) (a : Holds r G) (g : (i : Id) �
   }
     where
       here : (o : Option Document) → DocAt o (G w.id) → Rep (tree_in o) (G w.id ∪ gives w) → DocAt o ((G ⊎w w) w.id)
-      here none b p = λ x m. unfold find in p.at x.0 x.1 (in_to x m)
-      here (some d) b p = (rep_iff d.tree (G w.id ∪ gives w) ((G ⊎w w) w.id) out_of in_to p, (b.1.0, inr b.1.1))
+      here None b p = λ x m. unfold find in p.at x.0 x.1 (in_to x m)
+      here (Some d) b p = (rep_iff d.tree (G w.id ∪ gives w) ((G ⊎w w) w.id) out_of in_to p, (b.1.0, inr b.1.1))
 
 -- ---- the limits
 
@@ -123,7 +124,7 @@ documents_fit r G a f =
   where
     go : (x : Id × Document) → In x r.documents → In x.0 f.ids
     go x m =
-        let d : DocAt (some x.1) (G x.0) = rw (in_find bytes_order r.documents a.ascending x m) at (a.at x.0) in
+        let d : DocAt (Some x.1) (G x.0) = rw (in_find bytes_order r.documents a.ascending x m) at (a.at x.0) in
         f.ids_all x.0 d.1.0.0 (d.1.0.1, d.1.1)
 
 pub revisions_fit : (r : Replica) (G : Givens) → Holds r G → Fits (things G) → revisions_held r.documents ≤ revisions_most
@@ -133,7 +134,7 @@ revisions_fit r G a f =
     let k = f.revisions_at_most in
     omega arith
   where
-    doc : (x : Id × Document) → In x r.documents → DocAt (some x.1) (G x.0)
+    doc : (x : Id × Document) → In x r.documents → DocAt (Some x.1) (G x.0)
     doc x m = rw (in_find bytes_order r.documents a.ascending x m) at (a.at x.0)
 
     go : (x : Id × Document) → In x r.documents → (e : Entry) → In e x.1.tree → In (x.0, e.0) f.revisions
@@ -148,11 +149,11 @@ module _ (r : Replica) (w : Write) (G : Givens) (a : Holds r G) (g : (i : Id) �
   not_full = go (document_of r w.id) refl
     where
       go : (o : Option Document) → document_of r w.id ≡ o → (is_none o && leb documents_most (length r.documents)) ≡ false
-      go none e =
+      go None e =
           let p = length_alter bytes_order w.id (λ d. now r w) r.documents e in
           let q = documents_fit (added r w) (G ⊎w w) (holds_added r w G a g k) f in
           lt-leb documents_most (length r.documents) (omega (arith, p, q))
-      go (some d) e = refl
+      go (Some d) e = refl
 
   room : revisions_full r w ≡ false
   unfolding revisions_full
@@ -168,22 +169,22 @@ module _ (r : Replica) (w : Write) (G : Givens) (a : Holds r G) (g : (i : Id) �
   five = not_other (tree_of r w.id) (G w.id) (gives w) (rep_now r w G a g k) (agree_here r w G a g k)
 
   -- 8 is all that is left to refuse
-  eight : ((write r w).0 ≡ Refused SequenceSpent → ⊥) → sequence_spent r w ≡ false
+  eight : ((write r w).0 ≡ Err SequenceSpent → ⊥) → sequence_spent r w ≡ false
   eight q = go (sequence_spent r w) refl
     where
       go : (b : Bool) → sequence_spent r w ≡ b → b ≡ false
       go true e = absurd (q (unfold write write_refusals room_refusals first_that in rw (k.id_ok, k.path_ok, k.number_ok, four, five, not_full, room, e) refl))
       go false e = refl
 
-  passes : ((write r w).0 ≡ Refused SequenceSpent → ⊥) → Passed r w
+  passes : ((write r w).0 ≡ Err SequenceSpent → ⊥) → Passed r w
   passes q = record { form = k; four = four; five = five; six = not_full; seven = room; eight = eight q }
 
-  pub step : ((i : Id) → Closed (G i)) → ((write r w).0 ≡ Refused SequenceSpent → ⊥) → IsAccepted (write r w).0 × Holds (write r w).1 (G ⊎w w)
+  pub step : ((i : Id) → Closed (G i)) → ((write r w).0 ≡ Err SequenceSpent → ⊥) → IsAccepted (write r w).0 × Holds (write r w).1 (G ⊎w w)
   step c q =
-      subst (λ (o : Written × Replica). IsAccepted o.0 × Holds o.1 (G ⊎w w)) (sym (accepted r w (unrefused r w (passes q)))) (go (adds r w) refl)
+      subst (λ (o : Result Outcome Refusal × Replica). IsAccepted o.0 × Holds o.1 (G ⊎w w)) (sym (accepted r w (unrefused r w (passes q)))) (go (adds r w) refl)
     where
-      left : Bool → Written × Replica
-      left b = pick b (Accepted Changed, added r w) (Accepted Unchanged, r)
+      left : Bool → Result Outcome Refusal × Replica
+      left b = pick b (Ok Changed, added r w) (Ok Unchanged, r)
 
       go : (b : Bool) → adds r w ≡ b → IsAccepted (left b).0 × Holds (left b).1 (G ⊎w w)
       go true e = (tt, holds_added r w G a g k)

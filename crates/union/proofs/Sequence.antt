@@ -1,19 +1,19 @@
 -- From fresh the sequence never runs out: each change adds a revision or a parent. Assumes nothing.
 use mathlib.Core.Path.{◌≡◌, refl, sym, ap, ap₂, ◌∙◌}
+use Rattle.std.specs.declared.cmp.Ordering.TheVariants.{Less, Equal, Greater}
+use Rattle.std.specs.declared.cmp.Ordering.{Ordering}
+use Rattle.std.specs.Prelude.{Err}
 use mathlib.Core.Bool.{Bool, true, false, ◌&&◌, ◌||◌, true≢false}
 use mathlib.Core.List.{List, [], ◌∷◌}
 use mathlib.Core.Logic.{inl, inr}
-use mathlib.Core.Option.{Option, none, some}
+use Rattle.std.specs.Prelude.{Option, None, Some}
 use Prim.Native.Nat.{ℕ, suc, ◌+◌, ◌≤◌, ◌<◌}
 use native.Mathlib.Omega.{arith}
 use lib.Dec.{eqb}
 use lib.ListN.{length}
 use borrow.Author.Tests.{eqb-true}
-use Rattle.rules.specs.declared.Order.{Order}
-use Rattle.rules.specs.declared.Order.TheVariants.{Less, Equal, Greater}
 use Rattle.rules.specs.declared.Refusal.TheVariants.{SequenceSpent}
 use Rattle.rules.specs.declared.Revision.{Revision}
-use Rattle.rules.specs.declared.Written.TheVariants.{Refused}
 use Rattle.rules.specs.Choice.{or_else, maybe, any}
 use Rattle.rules.specs.Map.{Map, find}
 use Rattle.rules.specs.Order.{order_bytes, order_rev}
@@ -27,7 +27,7 @@ use Rattle.rules.proofs.GivenLaws.{adds_any}
 use Rattle.union.proofs.Trees.{Agrees, Entry, add}
 use Rattle.union.proofs.Paths.{Closed}
 use Rattle.union.proofs.Count.{on, sum, sum_alter, sum-at}
-use Rattle.union.proofs.Sets.{Givens, None, Plus, ◌⊎w◌, agrees, closed_none, closed_w, compatible_within, fits_within, only_given, things, within_sub}
+use Rattle.union.proofs.Sets.{Givens, NoGivens, Plus, ◌⊎w◌, agrees, closed_none, closed_w, compatible_within, fits_within, only_given, things, within_sub}
 use Rattle.union.proofs.Refusals.{Well, spent_only}
 use Rattle.union.proofs.Cases.{now, refused_by, write_by}
 use Rattle.union.proofs.Replicas.{Holds, revisions_fit, step}
@@ -35,8 +35,8 @@ use Rattle.union.proofs.Fold.{holds_fresh, one_within, rest_within}
 
 -- a revision counts one, and its parent if known another
 abbrev parent_weight : Option Revision → ℕ
-parent_weight none = 0
-parent_weight (some p) = 1
+parent_weight None = 0
+parent_weight (Some p) = 1
 
 node_weight : Node → ℕ
 node_weight c = suc (parent_weight c.parent)
@@ -52,10 +52,10 @@ bump true = 1
 bump false = 0
 
 learn_weight : (x y : Option Revision) → parent_weight (or_else x y) ≡ parent_weight x + bump (lacks_parent y x)
-learn_weight none none = refl
-learn_weight none (some b) = refl
-learn_weight (some a) none = refl
-learn_weight (some a) (some b) = refl
+learn_weight None None = refl
+learn_weight None (Some b) = refl
+learn_weight (Some a) None = refl
+learn_weight (Some a) (Some b) = refl
 
 addition_at : (t : Tree) (e : Entry) (o : Option Node) → find order_rev e.0 t ≡ o → is_addition t e ≡ maybe true (λ n. lacks_parent e.1.parent n.parent) o
 unfolding is_addition
@@ -66,10 +66,10 @@ unfolding tree_weight node_weight
 add_weight t e = go (find order_rev e.0 t) refl
   where
     go : (o : Option Node) → find order_rev e.0 t ≡ o → tree_weight t + bump (is_addition t e) ≤ tree_weight (add t e)
-    go none q = rw (addition_at t e none q) (let h = sum-at rev_order node_weight e.0 (learn e.1) t none q in omega arith)
-    go (some c) q =
-        rw (addition_at t e (some c) q)
-        (let h = sum-at rev_order node_weight e.0 (learn e.1) t (some c) q in let l = learn_weight c.parent e.1.parent in omega arith)
+    go None q = rw (addition_at t e None q) (let h = sum-at rev_order node_weight e.0 (learn e.1) t None q in omega arith)
+    go (Some c) q =
+        rw (addition_at t e (Some c) q)
+        (let h = sum-at rev_order node_weight e.0 (learn e.1) t (Some c) q in let l = learn_weight c.parent e.1.parent in omega arith)
 
 add_all_weight : (es : List Entry) (t : Tree) → tree_weight t ≤ tree_weight (add_all es t)
 unfolding add_all
@@ -77,9 +77,9 @@ add_all_weight [] t = omega arith
 add_all_weight (e ∷ es) t = let a = add_weight t e in let b = add_all_weight es (add t e) in omega arith
 
 parent_stays : (x y : Option Revision) → lacks_parent y x ≡ false → or_else x y ≡ x
-parent_stays none none e = refl
-parent_stays none (some b) e = absurd (true≢false e)
-parent_stays (some a) y e = refl
+parent_stays None None e = refl
+parent_stays None (Some b) e = absurd (true≢false e)
+parent_stays (Some a) y e = refl
 
 -- an entry that adds nothing leaves what the others would add
 addition_stays : (t : Tree) (e x : Entry) → is_addition t e ≡ false → is_addition (add t e) x ≡ is_addition t x
@@ -91,14 +91,14 @@ addition_stays t e x q = go (order_rev x.0 e.0) refl
         ∙ sym (addition_at t x (find order_rev x.0 t) refl)
 
     same : (o : Option Node) → find order_rev e.0 t ≡ o → x.0 ≡ e.0 → is_addition (add t e) x ≡ is_addition t x
-    same none f p = absurd (true≢false (sym (addition_at t e none f) ∙ q))
-    same (some c) f p =
-        addition_at (add t e) x (some (learn e.1 (some c)))
-        (rw p (find_same rev_order e.0 (learn e.1) t ∙ ap (λ o. some (learn e.1 o)) f))
-        ∙ ap (λ z. lacks_parent x.1.parent z) (parent_stays c.parent e.1.parent (sym (addition_at t e (some c) f) ∙ q))
-        ∙ sym (addition_at t x (some c) (rw p f))
+    same None f p = absurd (true≢false (sym (addition_at t e None f) ∙ q))
+    same (Some c) f p =
+        addition_at (add t e) x (Some (learn e.1 (Some c)))
+        (rw p (find_same rev_order e.0 (learn e.1) t ∙ ap (λ o. Some (learn e.1 o)) f))
+        ∙ ap (λ z. lacks_parent x.1.parent z) (parent_stays c.parent e.1.parent (sym (addition_at t e (Some c) f) ∙ q))
+        ∙ sym (addition_at t x (Some c) (rw p f))
 
-    go : (o : Order) → order_rev x.0 e.0 ≡ o → is_addition (add t e) x ≡ is_addition t x
+    go : (o : Ordering) → order_rev x.0 e.0 ≡ o → is_addition (add t e) x ≡ is_addition t x
     go Less p = apart (λ z. less≢equal (sym p ∙ z))
     go Equal p = same (find order_rev e.0 t) refl (rev_order.same x.0 e.0 p)
     go Greater p = apart (λ z. equal≢greater (sym z ∙ p))
@@ -131,8 +131,8 @@ replica_weight r = sum document_weight r.documents
 
 weight_on : (o : Option Document) → on document_weight o ≡ tree_weight (tree_in o)
 unfolding document_weight tree_weight sum
-weight_on none = refl
-weight_on (some d) = refl
+weight_on None = refl
+weight_on (Some d) = refl
 
 added_weight : (r : Replica) (w : Write) → adds r w ≡ true → replica_weight r < replica_weight (added r w)
 unfolding replica_weight added tree_of document_of document_weight
@@ -148,8 +148,8 @@ tree_twice [] = omega arith
 tree_twice (x ∷ xs) = go x.1.parent (tree_twice xs)
   where
     go : (o : Option Revision) → tree_weight xs ≤ length xs + length xs → suc (parent_weight o) + tree_weight xs ≤ length (x ∷ xs) + length (x ∷ xs)
-    go none ih = omega arith
-    go (some p) ih = omega arith
+    go None ih = omega arith
+    go (Some p) ih = omega arith
 
 documents_twice : (ds : Map Id Document) → sum document_weight ds ≤ revisions_held ds + revisions_held ds
 unfolding sum document_weight revisions_held
@@ -177,7 +177,7 @@ write_seq : (r : Replica) (w : Write) → (write r w).1.seq.0 ≤ suc r.seq.0
 write_seq r w = write_by r w (λ s. s.seq.0 ≤ suc r.seq.0) (omega arith) (λ e n. unfold added in omega arith)
 
 -- where a sequence is left, 8 is not answered
-not_spent : (r : Replica) (w : Write) → r.seq.0 < seq_most → (write r w).0 ≡ Refused SequenceSpent → ⊥
+not_spent : (r : Replica) (w : Write) → r.seq.0 < seq_most → (write r w).0 ≡ Err SequenceSpent → ⊥
 unfolding sequence_spent
 not_spent r w h e = no (adds r w) (spent_only r w (refused_by r w SequenceSpent e))
   where
@@ -218,6 +218,6 @@ suffices_from (w ∷ ws) r G a c k g f h = (
 pub suffices_fresh : (ws : List Write) → ((w : Write) → In w ws → Well w) → Compatible (given ws) → Fits (given ws) → SeqSuffices ws fresh
 unfolding replica_weight sum
 suffices_fresh ws k g f =
-    suffices_from ws fresh None holds_fresh closed_none k
-    (compatible_within (things (Plus None ws)) (given ws) (only_given ws) g)
-    (fits_within (things (Plus None ws)) (given ws) (only_given ws) f) (omega arith)
+    suffices_from ws fresh NoGivens holds_fresh closed_none k
+    (compatible_within (things (Plus NoGivens ws)) (given ws) (only_given ws) g)
+    (fits_within (things (Plus NoGivens ws)) (given ws) (only_given ws) f) (omega arith)

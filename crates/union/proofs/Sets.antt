@@ -2,7 +2,7 @@
 use mathlib.Core.Path.{◌≡◌}
 use mathlib.Core.List.{List}
 use mathlib.Core.Logic.{◌⊎◌, inl, inr}
-use mathlib.Core.Option.{some}
+use Rattle.std.specs.Prelude.{Some}
 use Rattle.rules.specs.Replica.{Id, Node}
 use Rattle.rules.specs.Union.{In, Things, Gives, given, both, Compatible, Fits, Within}
 use Rattle.rules.specs.Write.{Write, gives}
@@ -18,8 +18,8 @@ Givens = Id → Given
 abbrev pub things : Givens → Things
 things G = record {
   revision = λ i v. (n : Node) × G i (v, n);
-  parent = λ i v p. (n : Node) × G i (v, n) × (n.parent ≡ some p);
-  content = λ i v c. (n : Node) × G i (v, n) × (n.content ≡ some c);
+  parent = λ i v p. (n : Node) × G i (v, n) × (n.parent ≡ Some p);
+  content = λ i v c. (n : Node) × G i (v, n) × (n.content ≡ Some c);
 }
 
 -- with what one more write gives
@@ -36,8 +36,8 @@ abbrev pub Plus : Givens → List Write → Givens
 Plus G ws i x = GivenBy ws i x ⊎ G i x
 
 -- nothing
-abbrev pub None : Givens
-None i x = ⊥
+abbrev pub NoGivens : Givens
+NoGivens i x = ⊥
 
 -- ---- parts of sets
 
@@ -105,8 +105,8 @@ both_from G H = record {
   contents = λ i v c m. elim m [ inl a ↦ (a.0, inl a.1, a.2) | inr b ↦ (b.0, inr b.1, b.2) ];
 }
 
-pub only_given : (ws : List Write) → Within (things (Plus None ws)) (given ws)
-only_given ws = within_sub (Plus None ws) (GivenBy ws) (λ i x m. elim m [ inl k ↦ k | inr b ↦ absurd b ])
+pub only_given : (ws : List Write) → Within (things (Plus NoGivens ws)) (given ws)
+only_given ws = within_sub (Plus NoGivens ws) (GivenBy ws) (λ i x m. elim m [ inl k ↦ k | inr b ↦ absurd b ])
 
 -- ---- closed under parents
 
@@ -134,7 +134,7 @@ closed_w G w c i = record {
   ];
 }
 
-pub closed_none : (i : Id) → Closed (None i)
+pub closed_none : (i : Id) → Closed (NoGivens i)
 closed_none i = record { down = λ x p m e. absurd m; up = λ r d m e. absurd m }
 
 pub closed_given : (ws : List Write) (i : Id) → Closed (GivenBy ws i)

@@ -1,10 +1,10 @@
 -- The tree of a document against a set of entries. Assumes nothing.
 use mathlib.Core.Path.{◌≡◌, refl, sym, ap, ◌∙◌, subst}
+use Rattle.std.specs.declared.cmp.Ordering.TheVariants.{Less, Equal, Greater}
+use Rattle.std.specs.declared.cmp.Ordering.{Ordering}
 use mathlib.Core.List.{List, [], ◌∷◌}
-use mathlib.Core.Option.{some}
+use Rattle.std.specs.Prelude.{Some}
 use mathlib.Core.Logic.{◌⊎◌, inl, inr}
-use Rattle.rules.specs.declared.Order.{Order}
-use Rattle.rules.specs.declared.Order.TheVariants.{Less, Equal, Greater}
 use Rattle.rules.specs.declared.Revision.{Revision}
 use Rattle.rules.specs.Map.{find, alter, Ascending}
 use Rattle.rules.specs.Order.{order_rev}
@@ -57,7 +57,7 @@ hit : (t : Tree) (e : Entry) (G : Given) → Rep t G → Agrees (G ⊞ e)
     → At (find order_rev e.0 (add t e)) (λ c. (G ⊞ e) (e.0, c))
 hit t e G a g =
     rw (find_same rev_order e.0 (learn e.1) t)
-    (at_iff (some (learn e.1 (find order_rev e.0 t))) ((λ c. G (e.0, c)) ⊕ e.1) (λ c. (G ⊞ e) (e.0, c)) into from
+    (at_iff (Some (learn e.1 (find order_rev e.0 t))) ((λ c. G (e.0, c)) ⊕ e.1) (λ c. (G ⊞ e) (e.0, c)) into from
     (learn_at (find order_rev e.0 t) e.1 (λ c. G (e.0, c)) (a.at e.0)
     (agree_sub ((λ c. G (e.0, c)) ⊕ e.1) (λ c. (G ⊞ e) (e.0, c)) into (g e.0))))
   where
@@ -85,7 +85,7 @@ rep_add t e G a g = record {
   at = λ r. go r (order_rev r e.0) refl;
 }
   where
-    go : (r : Revision) (o : Order) → order_rev r e.0 ≡ o → At (find order_rev r (add t e)) (λ c. (G ⊞ e) (r, c))
+    go : (r : Revision) (o : Ordering) → order_rev r e.0 ≡ o → At (find order_rev r (add t e)) (λ c. (G ⊞ e) (r, c))
     go r Less p = miss t e G r a (λ q. less≢equal (sym p ∙ q))
     go r Equal p = subst (λ (x : Revision). At (find order_rev x (add t e)) (λ c. (G ⊞ e) (x, c))) (sym (rev_order.same r e.0 p)) (hit t e G a g)
     go r Greater p = miss t e G r a (λ q. equal≢greater (sym q ∙ p))

@@ -1,11 +1,11 @@
 -- What holds a closed set is its union, and a union is one thing: its trees, list for list. Assumes nothing.
 use mathlib.Core.Path.{◌≡◌, refl, sym, ap, ◌∙◌, subst}
+use Rattle.std.specs.declared.cmp.Ordering.TheVariants.{Less, Equal, Greater}
+use Rattle.std.specs.declared.cmp.Ordering.{Ordering}
 use mathlib.Core.List.{[], ◌∷◌}
 use mathlib.Core.Logic.{inl, inr, ◌↔◌}
-use mathlib.Core.Option.{Option, none, some}
+use Rattle.std.specs.Prelude.{Option, None, Some}
 use Rattle.rules.specs.declared.Content.{Content}
-use Rattle.rules.specs.declared.Order.{Order}
-use Rattle.rules.specs.declared.Order.TheVariants.{Less, Equal, Greater}
 use Rattle.rules.specs.declared.Revision.{Revision}
 use Rattle.rules.specs.Map.{Map, find, Ascending}
 use Rattle.rules.specs.Order.{order_bytes, order_rev}
@@ -26,11 +26,11 @@ module _ (r : Replica) (G : Givens) (a : Holds r G) (c : (i : Id) → Closed (G 
   unfolding tree_of document_of
   rep_at i = rep_of (document_of r i) (G i) (a.at i)
 
-  pub some_at : (i : Id) (v : Revision) (b : Node) → find order_rev v (tree_of r i) ≡ some b → AtSome b (λ d. G i (v, d))
+  pub some_at : (i : Id) (v : Revision) (b : Node) → find order_rev v (tree_of r i) ≡ Some b → AtSome b (λ d. G i (v, d))
   some_at i v b e = rw e at ((rep_at i).at v)
 
   -- a given revision is known
-  pub node_of : (i : Id) (v : Revision) (d : Node) → G i (v, d) → (b : Node) × (find order_rev v (tree_of r i) ≡ some b) × AtSome b (λ d. G i (v, d))
+  pub node_of : (i : Id) (v : Revision) (d : Node) → G i (v, d) → (b : Node) × (find order_rev v (tree_of r i) ≡ Some b) × AtSome b (λ d. G i (v, d))
   node_of i v d m = by_option (find order_rev v (tree_of r i)) (λ e. absurd ((rw e at ((rep_at i).at v)) d m)) (λ b e. (b, e, rw e at ((rep_at i).at v)))
 
   revision_iff : (i : Id) (v : Revision) → Known (tree_of r i) v ↔ (things G).revision i v
@@ -193,15 +193,15 @@ union_then m s g h only u t = union_alike s (both (held m) h) (both g h) same t
 -- ---- a union is one thing
 
 abbrev tree_may : Option Document → Option Tree
-tree_may none = none
-tree_may (some d) = some d.tree
+tree_may None = None
+tree_may (Some d) = Some d.tree
 
 find_trees : (ds : Map Id Document) (i : Id) → find order_bytes i (trees ds) ≡ tree_may (find order_bytes i ds)
 unfolding trees find
 find_trees [] i = refl
 find_trees (d ∷ ds) i = go (order_bytes i d.0) refl (find_trees ds i)
   where
-    go : (o : Order) → order_bytes i d.0 ≡ o → find order_bytes i (trees ds) ≡ tree_may (find order_bytes i ds)
+    go : (o : Ordering) → order_bytes i d.0 ≡ o → find order_bytes i (trees ds) ≡ tree_may (find order_bytes i ds)
         → find order_bytes i (trees (d ∷ ds)) ≡ tree_may (find order_bytes i (d ∷ ds))
     go Less e ih = rw e refl
     go Equal e ih = rw e refl
@@ -218,25 +218,25 @@ unfolding document_of
 tree_found r i = find_trees r.documents i
 
 module _ (r s : Replica) (g : Things) (u : IsUnion r g) (t : IsUnion s g) where
-  parent_over : (i : Id) (v : Revision) (m n : Node) → find order_rev v (tree_of r i) ≡ some m → find order_rev v (tree_of s i) ≡ some n
-      → (p : Revision) → m.parent ≡ some p → n.parent ≡ some p
+  parent_over : (i : Id) (v : Revision) (m n : Node) → find order_rev v (tree_of r i) ≡ Some m → find order_rev v (tree_of s i) ≡ Some n
+      → (p : Revision) → m.parent ≡ Some p → n.parent ≡ Some p
   parent_over i v m n e f p q =
       let z = (t.parents i v p).1 ((u.parents i v p).0 (m, e, q)) in
       ap (λ (x : Node). x.parent) (some_inj (sym f ∙ z.1)) ∙ z.2
 
-  content_over : (i : Id) (v : Revision) (m n : Node) → find order_rev v (tree_of r i) ≡ some m → find order_rev v (tree_of s i) ≡ some n
-      → (c : Content) → m.content ≡ some c → n.content ≡ some c
+  content_over : (i : Id) (v : Revision) (m n : Node) → find order_rev v (tree_of r i) ≡ Some m → find order_rev v (tree_of s i) ≡ Some n
+      → (c : Content) → m.content ≡ Some c → n.content ≡ Some c
   content_over i v m n e f c q =
       let z = (t.contents i v c).1 ((u.contents i v c).0 (m, e, q)) in
       ap (λ (x : Node). x.content) (some_inj (sym f ∙ z.1)) ∙ z.2
 
 node_over : (r s : Replica) (g : Things) → IsUnion r g → IsUnion s g → (i : Id) (v : Revision) (n : Node)
-    → find order_rev v (tree_of r i) ≡ some n → find order_rev v (tree_of s i) ≡ some n
+    → find order_rev v (tree_of r i) ≡ Some n → find order_rev v (tree_of s i) ≡ Some n
 node_over r s g u t i v n e =
     let z = (t.revisions i v).1 ((u.revisions i v).0 (n, e)) in
     let p = opt_ext z.0.parent n.parent (parent_over s r g t u i v z.0 n z.1 e) (parent_over r s g u t i v n z.0 e z.1) in
     let c = opt_ext z.0.content n.content (content_over s r g t u i v z.0 n z.1 e) (content_over r s g u t i v n z.0 e z.1) in
-    z.1 ∙ ap some (λ j. record { parent = p j; content = c j })
+    z.1 ∙ ap Some (λ j. record { parent = p j; content = c j })
 
 -- two replicas that are the union of the same things have the same trees, list for list
 pub one_union : (r s : Replica) (g : Things) → IsReplica r → IsReplica s → IsUnion r g → IsUnion s g → SameButSeq r s
@@ -246,24 +246,24 @@ one_union r s g k l u t =
     (λ i. tree_found r i ∙ (go i (document_of r i) refl (document_of s i) refl ∙ sym (tree_found s i)))
   where
     go : (i : Id) (o : Option Document) → document_of r i ≡ o → (q : Option Document) → document_of s i ≡ q → tree_may o ≡ tree_may q
-    go i none e none f = refl
-    go i none e (some y) f = absurd (let z = (u.documents i).1 ((t.documents i).0 (y, f)) in none≢some (sym e ∙ z.1))
-    go i (some x) e none f = absurd (let z = (t.documents i).1 ((u.documents i).0 (x, e)) in none≢some (sym f ∙ z.1))
-    go i (some x) e (some y) f =
-        ap some
+    go i None e None f = refl
+    go i None e (Some y) f = absurd (let z = (u.documents i).1 ((t.documents i).0 (y, f)) in none≢some (sym e ∙ z.1))
+    go i (Some x) e None f = absurd (let z = (t.documents i).1 ((u.documents i).0 (x, e)) in none≢some (sym f ∙ z.1))
+    go i (Some x) e (Some y) f =
+        ap Some
         (ext rev_order x.tree y.tree (k.documents i x e).tree.ascending (l.documents i y f).tree.ascending
         (λ v. ap (λ z. find order_rev v (tree_in z)) (sym e)
         ∙ (opt_ext (find order_rev v (tree_of r i)) (find order_rev v (tree_of s i)) (node_over r s g u t i v) (node_over s r g t u i v)
         ∙ ap (λ z. find order_rev v (tree_in z)) f)))
 
 tree_or : Option Tree → Tree
-tree_or none = []
-tree_or (some t) = t
+tree_or None = []
+tree_or (Some t) = t
 
 tree_or_lem : (o : Option Document) → tree_in o ≡ tree_or (tree_may o)
 unfolding tree_or
-tree_or_lem none = refl
-tree_or_lem (some d) = refl
+tree_or_lem None = refl
+tree_or_lem (Some d) = refl
 
 -- replicas that are the same but for sequences have the same tree for each id, so the same winner
 pub same_tree : (r s : Replica) → SameButSeq r s → (i : Id) → tree_of r i ≡ tree_of s i

@@ -1,12 +1,12 @@
 -- The leaves of a tree as a list, and its winner: the leaf that none is above. Assumes nothing.
 use mathlib.Core.Path.{◌≡◌, refl, sym, ap, ◌∙◌, subst}
+use Rattle.std.specs.declared.cmp.Ordering.TheVariants.{Less, Equal, Greater}
+use Rattle.std.specs.declared.cmp.Ordering.{Ordering}
 use mathlib.Core.List.{List, [], ◌∷◌, ◌++◌}
 use mathlib.Core.Logic.{◌⊎◌, inl, inr, ◌↔◌}
-use mathlib.Core.Option.{Option, none, some}
+use Rattle.std.specs.Prelude.{Option, None, Some}
 use Prim.Native.Nat.{ℕ}
 use Rattle.rules.specs.declared.Content.{Content}
-use Rattle.rules.specs.declared.Order.{Order}
-use Rattle.rules.specs.declared.Order.TheVariants.{Less, Equal, Greater}
 use Rattle.rules.specs.declared.Revision.{Revision}
 use Rattle.rules.specs.Choice.{maybe, pick}
 use Rattle.rules.specs.Map.{find, Ascending}
@@ -25,22 +25,22 @@ abbrev pub leaf_of : Revision → Content → LeafOf
 leaf_of v c = record { rev = v; content = c }
 
 leaf_out : (x : Entry) (o : Option Content) → x.1.content ≡ o → (a : LeafOf) → In a (maybe [] (λ c. leaf_of x.0 c ∷ []) o)
-    → (x.0 ≡ a.rev) × (x.1.content ≡ some a.content)
-leaf_out x none e a m = absurd m
-leaf_out x (some c) e a (inl q) = (ap (λ (z : LeafOf). z.rev) (sym q), e ∙ ap some (ap (λ (z : LeafOf). z.content) (sym q)))
-leaf_out x (some c) e a (inr m) = absurd m
+    → (x.0 ≡ a.rev) × (x.1.content ≡ Some a.content)
+leaf_out x None e a m = absurd m
+leaf_out x (Some c) e a (inl q) = (ap (λ (z : LeafOf). z.rev) (sym q), e ∙ ap Some (ap (λ (z : LeafOf). z.content) (sym q)))
+leaf_out x (Some c) e a (inr m) = absurd m
 
-pub leaves_out : (t : Tree) (a : LeafOf) → In a (leaves t) → (x : Entry) × In x t × (x.0 ≡ a.rev) × (x.1.content ≡ some a.content)
+pub leaves_out : (t : Tree) (a : LeafOf) → In a (leaves t) → (x : Entry) × In x t × (x.0 ≡ a.rev) × (x.1.content ≡ Some a.content)
 unfolding leaves
 leaves_out [] a m = absurd m
 leaves_out (x ∷ t) a m = go (in_cases a (leaves t) (leaf_in x) m) (λ k. leaves_out t a k)
   where
-    go : In a (leaves t) ⊎ In a (leaf_in x) → (In a (leaves t) → (x : Entry) × In x t × (x.0 ≡ a.rev) × (x.1.content ≡ some a.content))
-        → (y : Entry) × In y (x ∷ t) × (y.0 ≡ a.rev) × (y.1.content ≡ some a.content)
+    go : In a (leaves t) ⊎ In a (leaf_in x) → (In a (leaves t) → (x : Entry) × In x t × (x.0 ≡ a.rev) × (x.1.content ≡ Some a.content))
+        → (y : Entry) × In y (x ∷ t) × (y.0 ≡ a.rev) × (y.1.content ≡ Some a.content)
     go (inl k) ih = let u = ih k in (u.0, inr u.1, u.2, u.3)
     go (inr k) ih = let u = leaf_out x x.1.content refl a k in (x, inl refl, u.0, u.1)
 
-leaves_in_lem : (t : Tree) (x : Entry) (c : Content) → In x t → x.1.content ≡ some c → In (leaf_of x.0 c) (leaves t)
+leaves_in_lem : (t : Tree) (x : Entry) (c : Content) → In x t → x.1.content ≡ Some c → In (leaf_of x.0 c) (leaves t)
 unfolding leaves
 leaves_in_lem [] x c m e = absurd m
 leaves_in_lem (y ∷ t) x c (inl q) e =
@@ -52,7 +52,7 @@ module _ (t : Tree) (s : Ascending order_rev t) where
   pub leaf_content : (a : LeafOf) → In a (leaves t) → HasContent t a.rev a.content
   leaf_content a m =
       let u = leaves_out t a m in
-      (u.0.1, subst (λ (v : Revision). find order_rev v t ≡ some u.0.1) u.2 (in_find rev_order t s u.0 u.1), u.3)
+      (u.0.1, subst (λ (v : Revision). find order_rev v t ≡ Some u.0.1) u.2 (in_find rev_order t s u.0 u.1), u.3)
 
   pub content_leaf : (a : LeafOf) → HasContent t a.rev a.content → In a (leaves t)
   content_leaf a h = leaves_in_lem t (a.rev, h.0) a.content (find_in rev_order t a.rev h.0 h.1) h.2
@@ -76,8 +76,8 @@ descend_end (x ∷ xs) ys d e h = (top, descend_end xs ys d.1 e (λ a b m k. h a
     top b m = elim (in_cases b xs ys m) [ inl k ↦ d.0 b k | inr k ↦ h x b (inl refl) k ]
 
 one_descends : (v : Revision) (o : Option Content) → Descending (maybe [] (λ c. leaf_of v c ∷ []) o)
-one_descends v none = tt
-one_descends v (some c) = (λ b m. absurd m, tt)
+one_descends v None = tt
+one_descends v (Some c) = (λ b m. absurd m, tt)
 
 pub leaves_descend : (t : Tree) → Ascending order_rev t → Descending (leaves t)
 unfolding leaves
@@ -117,36 +117,36 @@ leaf_like a b c e = key_order b c ∙ (ap (λ (k : List ℕ). order_bytes k (key
 pub leaf_rev : (a b : LeafOf) → order_leaf a b ≡ Equal → a.rev ≡ b.rev
 leaf_rev a b e = let k = leaf_key a b e in rev_path a.rev b.rev (cc) (cc)
 
-highest_some : (ls : List LeafOf) (b : LeafOf) → In b ls → (m : LeafOf) × (highest ls ≡ some m)
+highest_some : (ls : List LeafOf) (b : LeafOf) → In b ls → (m : LeafOf) × (highest ls ≡ Some m)
 unfolding highest
 highest_some [] b i = absurd i
 highest_some (a ∷ ls) b i = (higher a (highest ls), refl)
 
-pub highest_in : (ls : List LeafOf) (m : LeafOf) → highest ls ≡ some m → In m ls
+pub highest_in : (ls : List LeafOf) (m : LeafOf) → highest ls ≡ Some m → In m ls
 unfolding highest
 highest_in [] m e = absurd (none≢some e)
 highest_in (a ∷ ls) m e = go (highest ls) refl (λ n q. highest_in ls n q)
   where
-    go : (o : Option LeafOf) → highest ls ≡ o → ((n : LeafOf) → highest ls ≡ some n → In n ls) → In m (a ∷ ls)
-    go none q ih = inl (some_inj (sym e ∙ ap (λ z. some (higher a z)) q))
-    go (some n) q ih = pickd (order_leaf a n) (some_inj (sym e ∙ ap (λ z. some (higher a z)) q))
+    go : (o : Option LeafOf) → highest ls ≡ o → ((n : LeafOf) → highest ls ≡ Some n → In n ls) → In m (a ∷ ls)
+    go None q ih = inl (some_inj (sym e ∙ ap (λ z. Some (higher a z)) q))
+    go (Some n) q ih = pickd (order_leaf a n) (some_inj (sym e ∙ ap (λ z. Some (higher a z)) q))
       where
-        pickd : (o : Order) → m ≡ pick (is_less o) n a → In m (a ∷ ls)
+        pickd : (o : Ordering) → m ≡ pick (is_less o) n a → In m (a ∷ ls)
         pickd Less p = inr (subst (λ (z : LeafOf). In z ls) (sym p) (ih n q))
         pickd Equal p = inl p
         pickd Greater p = inl p
 
-highest_top : (ls : List LeafOf) (m : LeafOf) → highest ls ≡ some m → (b : LeafOf) → In b ls → order_leaf m b ≡ Less → ⊥
+highest_top : (ls : List LeafOf) (m : LeafOf) → highest ls ≡ Some m → (b : LeafOf) → In b ls → order_leaf m b ≡ Less → ⊥
 unfolding highest
 highest_top [] m e b i l = absurd i
 highest_top (a ∷ ls) m e b i l = go (highest ls) refl (λ n q k. highest_top ls n q b k) i
   where
-    go : (o : Option LeafOf) → highest ls ≡ o → ((n : LeafOf) → highest ls ≡ some n → In b ls → order_leaf n b ≡ Less → ⊥) → In b (a ∷ ls) → ⊥
-    go none q ih (inl k) = leaf_self a (subst (λ (z : LeafOf). order_leaf z a ≡ Less) (some_inj (sym e ∙ ap (λ z. some (higher a z)) q)) (subst (λ (z : LeafOf). order_leaf m z ≡ Less) k l))
-    go none q ih (inr k) = let h = highest_some ls b k in none≢some (sym q ∙ h.1)
-    go (some n) q ih k = by (order_leaf a n) refl (some_inj (sym e ∙ ap (λ z. some (higher a z)) q)) k
+    go : (o : Option LeafOf) → highest ls ≡ o → ((n : LeafOf) → highest ls ≡ Some n → In b ls → order_leaf n b ≡ Less → ⊥) → In b (a ∷ ls) → ⊥
+    go None q ih (inl k) = leaf_self a (subst (λ (z : LeafOf). order_leaf z a ≡ Less) (some_inj (sym e ∙ ap (λ z. Some (higher a z)) q)) (subst (λ (z : LeafOf). order_leaf m z ≡ Less) k l))
+    go None q ih (inr k) = let h = highest_some ls b k in none≢some (sym q ∙ h.1)
+    go (Some n) q ih k = by (order_leaf a n) refl (some_inj (sym e ∙ ap (λ z. Some (higher a z)) q)) k
       where
-        by : (o : Order) → order_leaf a n ≡ o → m ≡ pick (is_less (order_leaf a n)) n a → In b (a ∷ ls) → ⊥
+        by : (o : Ordering) → order_leaf a n ≡ o → m ≡ pick (is_less (order_leaf a n)) n a → In b (a ∷ ls) → ⊥
         by Less f p (inl k) =
             leaf_self a (leaf_trans a n a f (subst (λ (z : LeafOf). order_leaf z a ≡ Less) (rw f at p) (subst (λ (z : LeafOf). order_leaf m z ≡ Less) k l)))
         by Less f p (inr k) = ih n q k (subst (λ (z : LeafOf). order_leaf z b ≡ Less) (rw f at p) l)
@@ -163,24 +163,24 @@ Top t a =
     HasContent t a.rev a.content
     × ((b : LeafOf) → HasContent t b.rev b.content → order_leaf a b ≡ Less → ⊥)
 
-pub winner_top : (t : Tree) → Ascending order_rev t → (a : LeafOf) → (winner t ≡ some a) ↔ Top t a
+pub winner_top : (t : Tree) → Ascending order_rev t → (a : LeafOf) → (winner t ≡ Some a) ↔ Top t a
 unfolding winner
 winner_top t s a = (there, back)
   where
-    there : highest (leaves t) ≡ some a → Top t a
+    there : highest (leaves t) ≡ Some a → Top t a
     there e = (
       leaf_content t s a (highest_in (leaves t) a e),
       λ b h l. highest_top (leaves t) a e b (content_leaf t s b h) l,
     )
 
-    back : Top t a → highest (leaves t) ≡ some a
+    back : Top t a → highest (leaves t) ≡ Some a
     back h =
         let i = content_leaf t s a h.0 in
         let m = highest_some (leaves t) a i in
         let j = highest_in (leaves t) m.0 m.1 in
-        m.1 ∙ ap some (go m.0 j m.1 i (order_leaf a m.0) refl)
+        m.1 ∙ ap Some (go m.0 j m.1 i (order_leaf a m.0) refl)
       where
-        go : (m : LeafOf) → In m (leaves t) → highest (leaves t) ≡ some m → In a (leaves t) → (o : Order) → order_leaf a m ≡ o → m ≡ a
+        go : (m : LeafOf) → In m (leaves t) → highest (leaves t) ≡ Some m → In a (leaves t) → (o : Ordering) → order_leaf a m ≡ o → m ≡ a
         go m j e i Less q = absurd (h.1 m (leaf_content t s m j) q)
         go m j e i Equal q = sym (leaf_one t s a m i j (leaf_rev a m q))
         go m j e i Greater q = absurd (highest_top (leaves t) m e a i (leaf_turn a m q))

@@ -1,12 +1,13 @@
 -- What an accepted write leaves, said without running it. Assumes nothing.
 use mathlib.Core.Path.{◌≡◌, refl, sym, ap, ◌∙◌, subst}
+use Rattle.rules.specs.declared.Refusal.{Refusal}
+use Rattle.rules.specs.declared.Outcome.{Outcome}
+use Rattle.std.specs.Prelude.{Result, Ok}
 use mathlib.Core.Bool.{Bool, true, false}
 use mathlib.Core.List.{[], ◌∷◌}
 use mathlib.Core.Logic.{inl, inr, ◌↔◌}
-use mathlib.Core.Option.{Option, none, some}
+use Rattle.std.specs.Prelude.{Option, None, Some}
 use Rattle.rules.specs.declared.Outcome.TheVariants.{Changed, Unchanged}
-use Rattle.rules.specs.declared.Written.{Written}
-use Rattle.rules.specs.declared.Written.TheVariants.{Accepted}
 use Rattle.rules.specs.declared.Revision.{Revision}
 use Rattle.rules.specs.Choice.{pick, first_that}
 use Rattle.rules.specs.Replica.{Id, Document, Replica, tree_in, document_of, tree_of, IsReplica, Node, Known, HasParent}
@@ -27,13 +28,13 @@ use Rattle.union.proofs.Unions.{alike, one_union, same_tree, union, union_alike}
 use Rattle.union.proofs.Held.{Own, closed_own}
 use Rattle.union.proofs.Keeps.{holds_more, holds_same}
 
-module _ (r : Replica) (w : Write) (k : IsReplica r) (ok : first_that (write_refusals r w) ≡ none) where
-  after : Bool → Written × Replica
-  after b = pick b (Accepted Changed, added r w) (Accepted Unchanged, r)
+module _ (r : Replica) (w : Write) (k : IsReplica r) (ok : first_that (write_refusals r w) ≡ None) where
+  after : Bool → Result Outcome Refusal × Replica
+  after b = pick b (Ok Changed, added r w) (Ok Unchanged, r)
 
   holds : Holds (write r w).1 (Own r ⊎w w)
   unfolding after
-  holds = subst (λ (o : Written × Replica). Holds o.1 (Own r ⊎w w)) (sym (accepted r w ok)) (go (adds r w) refl)
+  holds = subst (λ (o : Result Outcome Refusal × Replica). Holds o.1 (Own r ⊎w w)) (sym (accepted r w ok)) (go (adds r w) refl)
     where
       go : (b : Bool) → adds r w ≡ b → Holds (after b).1 (Own r ⊎w w)
       go true e = holds_more r w k (passed r w ok)
@@ -61,7 +62,7 @@ module _ (r : Replica) (w : Write) (k : IsReplica r) (ok : first_that (write_ref
       (both_from (Own r) (GivenBy (w ∷ []))) (within_sub (Both (Own r) (GivenBy (w ∷ []))) (Own r ⊎w w) from_both)))
       (union (write r w).1 (Own r ⊎w w) holds (closed_w (Own r) w (closed_own r k)))
 
-  seq_own : adds r w ≡ true → (d : Document) → document_of (write r w).1 w.id ≡ some d → d.seq ≡ next r.seq
+  seq_own : adds r w ≡ true → (d : Document) → document_of (write r w).1 w.id ≡ Some d → d.seq ≡ next r.seq
   unfolding after
   seq_own e d f =
       let here : document_of (write r w).1 w.id ≡ document_of (added r w) w.id = rw (accepted r w ok, e) refl in
@@ -84,9 +85,9 @@ module _ (r : Replica) (w : Write) (k : IsReplica r) (ok : first_that (write_ref
     parents = λ v p m. subst (λ (s : Replica). HasParent (tree_of s w.id) v p) (write_left.unchanged e) ((is_union.parents w.id v p).1 (inr m));
   }
 
-lacks_none : (given held : Option Revision) → ((p : Revision) → given ≡ some p → held ≡ some p) → lacks_parent given held ≡ false
-lacks_none none held h = refl
-lacks_none (some p) held h = rw (h p refl) refl
+lacks_none : (given held : Option Revision) → ((p : Revision) → given ≡ Some p → held ≡ Some p) → lacks_parent given held ≡ false
+lacks_none None held h = refl
+lacks_none (Some p) held h = rw (h p refl) refl
 
 quiet : (r : Replica) (w : Write) → Knows r w → adds r w ≡ false
 unfolding is_addition
@@ -99,7 +100,7 @@ quiet r w k = adds_any r w ∙ any_none (is_addition (tree_of r w.id)) (gives w)
         (lacks_none x.1.parent n.0.parent
         (λ p e. let u = k.parents x.0 p (x.1, (w, inl refl, refl, m), e) in ap (λ (z : Node). z.parent) (some_inj (sym n.1 ∙ u.1)) ∙ u.2))
 
-pub adds_nothing : (r : Replica) (w : Write) → IsReplica r → first_that (write_refusals r w) ≡ none → (adds r w ≡ false) ↔ Knows r w
+pub adds_nothing : (r : Replica) (w : Write) → IsReplica r → first_that (write_refusals r w) ≡ None → (adds r w ≡ false) ↔ Knows r w
 adds_nothing r w k ok = (knows r w k ok, quiet r w)
 
 -- ---- that leaves one replica
@@ -108,24 +109,24 @@ seq_path : (a b : Document) → a.seq ≡ b.seq → a.tree ≡ b.tree → a ≡ 
 seq_path a b p q = λ i. record { seq = p i; tree = q i }
 
 same_document : (r s : Replica) (i : Id) → tree_of r i ≡ tree_of s i
-    → ((d : Document) → document_of r i ≡ some d → (e : Document) × (document_of s i ≡ some e) × (d.seq ≡ e.seq))
-    → ((e : Document) → document_of s i ≡ some e → (d : Document) × (document_of r i ≡ some d))
+    → ((d : Document) → document_of r i ≡ Some d → (e : Document) × (document_of s i ≡ Some e) × (d.seq ≡ e.seq))
+    → ((e : Document) → document_of s i ≡ Some e → (d : Document) × (document_of r i ≡ Some d))
     → document_of r i ≡ document_of s i
 unfolding tree_of
 same_document r s i t f g = go (document_of r i) refl (document_of s i) refl
   where
     go : (o : Option Document) → document_of r i ≡ o → (q : Option Document) → document_of s i ≡ q → document_of r i ≡ document_of s i
-    go none p none q = p ∙ sym q
-    go none p (some e) q = absurd (let z = g e q in none≢some (sym p ∙ z.1))
-    go (some d) p o q =
+    go None p None q = p ∙ sym q
+    go None p (Some e) q = absurd (let z = g e q in none≢some (sym p ∙ z.1))
+    go (Some d) p o q =
         let z = f d p in
-        p ∙ (ap some (seq_path d z.0 z.2 (sym (ap tree_in p) ∙ (t ∙ ap tree_in z.1))) ∙ sym z.1)
+        p ∙ (ap Some (seq_path d z.0 z.2 (sym (ap tree_in p) ∙ (t ∙ ap tree_in z.1))) ∙ sym z.1)
 
 module _ (r : Replica) (w : Write) (a b : Replica) (ka : IsReplica a) (kb : IsReplica b) (la : Left r w a) (lb : Left r w b) (new : adds r w ≡ true) where
   same : SameButSeq a b
   same = one_union a b (both (held r) (given (w ∷ []))) ka kb la.union lb.union
 
-  over : (a b : Replica) → Left r w a → Left r w b → (d : Document) → document_of a w.id ≡ some d → (e : Document) × (document_of b w.id ≡ some e)
+  over : (a b : Replica) → Left r w a → Left r w b → (d : Document) → document_of a w.id ≡ Some d → (e : Document) × (document_of b w.id ≡ Some e)
   over a b la lb d f = (lb.union.documents w.id).1 ((la.union.documents w.id).0 (d, f))
 
   here : document_of a w.id ≡ document_of b w.id

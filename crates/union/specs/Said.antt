@@ -1,13 +1,14 @@
 -- What the theorems say of an edit, of one write, of reads and of pulls, in the words of rules.
 use Rattle.std.specs.Prelude.{◌≡◌, Bool, true, false, List, [], ◌∷◌, ℕ, ◌+◌, length}
-use Rattle.std.proofs.Math.Option.{Option, none, some}
+use Rattle.std.specs.declared.cmp.Ordering.TheVariants.{Less}
+use Rattle.rules.specs.declared.Refusal.{Refusal}
+use Rattle.rules.specs.declared.Outcome.{Outcome}
+use Rattle.std.specs.Prelude.{Result, Ok, Err}
+use Rattle.std.specs.Prelude.{Option, None, Some}
 use Rattle.rules.specs.declared.Change.{Change}
 use Rattle.rules.specs.declared.Counts.{Counts}
-use Rattle.rules.specs.declared.Order.TheVariants.{Less}
 use Rattle.rules.specs.declared.Outcome.TheVariants.{Changed, Unchanged}
 use Rattle.rules.specs.declared.Revision.{Revision}
-use Rattle.rules.specs.declared.Written.{Written}
-use Rattle.rules.specs.declared.Written.TheVariants.{Accepted, Refused}
 use Rattle.rules.specs.Bytes.{Bytes}
 use Rattle.rules.specs.Choice.{maybe, how_many}
 use Rattle.rules.specs.Edit.{Edit}
@@ -39,7 +40,7 @@ pub record Left (r : Replica) (w : Write) (left : Replica) : Type 1 where
   pub unchanged : adds r w ≡ false → left ≡ r
   -- "Otherwise .. the sequence rises by one, and the document takes the new value."
   pub changed : adds r w ≡ true → left.seq ≡ next r.seq
-  pub own : adds r w ≡ true → (d : Document) → document_of left w.id ≡ some d → d.seq ≡ next r.seq
+  pub own : adds r w ≡ true → (d : Document) → document_of left w.id ≡ Some d → d.seq ≡ next r.seq
   -- "A write to one document changes no answer about another document"
   pub others : (j : Id) → (j ≡ w.id → ⊥) → document_of left j ≡ document_of r j
 
@@ -47,7 +48,7 @@ pub record Left (r : Replica) (w : Write) (left : Replica) : Type 1 where
 
 -- what changes says of the document i
 abbrev pub change_about : Replica → Id → Option Change
-change_about r i = maybe none (λ d. some (change_of (i, d))) (document_of r i)
+change_about r i = maybe None (λ d. Some (change_of (i, d))) (document_of r i)
 
 -- "changes no answer about another document's revisions, parents, leaves, contents, winner or own sequence":
 -- each read of the document i, whatever is lent to it, answers and writes alike on both replicas
@@ -102,26 +103,26 @@ leaf_count [] = 0
 leaf_count (d ∷ ds) = length (leaves d.1.tree) + leaf_count ds
 
 -- what writes answer "one by one": each is made on what those before it left
-unfoldable pub answers : Replica → List Write → List Written
+unfoldable pub answers : Replica → List Write → List (Result Outcome Refusal)
 answers r [] = []
 answers r (w ∷ ws) = (write r w).0 ∷ answers (write r w).1 ws
 
-abbrev pub is_changed : Written → Bool
-is_changed (Accepted Changed) = true
-is_changed (Accepted Unchanged) = false
-is_changed (Refused n) = false
+abbrev pub is_changed : Result Outcome Refusal → Bool
+is_changed (Ok Changed) = true
+is_changed (Ok Unchanged) = false
+is_changed (Err n) = false
 
-abbrev pub is_unchanged : Written → Bool
-is_unchanged (Accepted Changed) = false
-is_unchanged (Accepted Unchanged) = true
-is_unchanged (Refused n) = false
+abbrev pub is_unchanged : Result Outcome Refusal → Bool
+is_unchanged (Ok Changed) = false
+is_unchanged (Ok Unchanged) = true
+is_unchanged (Err n) = false
 
-abbrev pub is_refused : Written → Bool
-is_refused (Accepted o) = false
-is_refused (Refused n) = true
+abbrev pub is_refused : Result Outcome Refusal → Bool
+is_refused (Ok o) = false
+is_refused (Err n) = true
 
 -- "each count is that of the offers one by one": how many of them were answered so
-pub record CountsEach (c : Counts) (os : List Written) : Type 0 where
+pub record CountsEach (c : Counts) (os : List (Result Outcome Refusal)) : Type 0 where
   pub changed : c.changed ≡ how_many is_changed os
   pub unchanged : c.unchanged ≡ how_many is_unchanged os
   pub refused : c.refused ≡ how_many is_refused os

@@ -1,5 +1,6 @@
 -- Laws of values.
 pub mod ValueLaws
+pub mod SkipLaws
 pub mod RfcLaws
 pub mod TextLaws
 pub mod OnlyLaws

@@ -1,5 +1,6 @@
 -- Laws of the places that this crate's functions answer. Assumes nothing.
 use mathlib.Core.Path.{◌≡◌, refl, sym, ap, ◌∙◌}
+use Rattle.std.specs.Prelude.{Option, None, Some}
 use mathlib.Core.List.{List}
 use Prim.Native.Nat.{ℕ, ◌+◌}
 use native.Mathlib.Omega.{arith}
@@ -7,23 +8,17 @@ use lib.ListN.{get_or}
 use Rattle.json_text.specs.Grammar.{string}
 use Rattle.json_text.specs.Tight.{member, value}
 use Rattle.json_text.specs.Skips.{WsTo, OnlyAt, EndsAt, WholeAt, NoText, Exact, Placed}
-use Rattle.json_text.specs.declared.Skip.{Skip}
-use Rattle.json_text.specs.declared.Skip.TheVariants.{To, Wrong}
 use Rattle.json_text.proofs.CharLaws.{exact_skips}
 use Rattle.json_text.proofs.PlaceLaws.{ws_place, only_place, whole_place}
-use Rattle.values.specs.declared.Opened.{Opened}
-use Rattle.values.specs.declared.Opened.TheVariants as opened
-use Rattle.values.specs.declared.After.{After}
-use Rattle.values.specs.declared.After.TheVariants as after
+use Rattle.values.specs.declared.Next.{Next}
+use Rattle.values.specs.declared.Next.TheVariants as next
 use Rattle.values.specs.declared.Member.{Member}
-use Rattle.values.specs.declared.Found.{Found}
-use Rattle.values.specs.declared.Found.TheVariants as found
 use Rattle.values.specs.Places.{ClosedAt, Opens, MoreAt, NeitherAt, Follows, MemberAt, Finds}
 use Rattle.values.proofs.ValueLaws.{value_headed, member_no_name, member_no_colon, member_goes}
 
 -- what a member's places say of its text
 name_ends_at : (s : List ℕ) (at e : ℕ) → OnlyAt string s at e → EndsAt string s at e
-name_ends_at s at e p = exact_skips string s at (To e) p
+name_ends_at s at e p = exact_skips string s at (Some e) p
 
 pub member_text_lem : (d : ℕ) (s : List ℕ) (at : ℕ) (m : Member) → MemberAt d s at m → WholeAt (member (value d)) s at m.value_end
 member_text_lem d s at m p =
@@ -43,26 +38,26 @@ member_text_lem d s at m p =
 
 -- ---- the needs of `member_at`
 
-module _ (d : ℕ) (s : List ℕ) (at : ℕ) (x : Skip) (name : Exact string s at x) where
-  pub no_name : x ≡ Wrong → NoText (member (value d)) s at
-  no_name q = member_no_name (value d) (value_headed d) s at (exact_skips string s at Wrong (rw q at name))
+module _ (d : ℕ) (s : List ℕ) (at : ℕ) (x : Option ℕ) (name : Exact string s at x) where
+  pub no_name : x ≡ None → NoText (member (value d)) s at
+  no_name q = member_no_name (value d) (value_headed d) s at (exact_skips string s at None (rw q at name))
 
-  module _ (n : ℕ) (is : x ≡ To n) (c : ℕ) (w : WsTo s n c) where
+  module _ (n : ℕ) (is : x ≡ Some n) (c : ℕ) (w : WsTo s n c) where
     name_at_lem : EndsAt string s at n
-    name_at_lem = exact_skips string s at (To n) (rw is at name)
+    name_at_lem = exact_skips string s at (Some n) (rw is at name)
 
     pub no_colon : (get_or s c 0 ≡ 58 → ⊥) → NoText (member (value d)) s at
     no_colon f = member_no_colon (value d) (value_headed d) s at n c name_at_lem w f
 
-    module _ (k : get_or s c 0 ≡ 58) (v : ℕ) (u : WsTo s (c + 1) v) (y : Skip) (val : Placed (value d) s v y) where
-      pub no_value : y ≡ Wrong → NoText (member (value d)) s at
+    module _ (k : get_or s c 0 ≡ 58) (v : ℕ) (u : WsTo s (c + 1) v) (y : Option ℕ) (val : Placed (value d) s v y) where
+      pub no_value : y ≡ None → NoText (member (value d)) s at
       unfolding NoText
       no_value q r p z =
           let g = member_goes (value d) (value_headed d) s at n c name_at_lem w v k u in
           let f : NoText (value d) s v = rw q at val in
           f r (g.leads.to r p tt) z
 
-      pub member_found : (e : ℕ) → y ≡ To e → MemberAt d s at (record { name = at; name_end = n; value = v; value_end = e })
+      pub member_found : (e : ℕ) → y ≡ Some e → MemberAt d s at (record { name = at; name_end = n; value = v; value_end = e })
       member_found e q = record {
         here = refl;
         named = rw is at name;
@@ -82,13 +77,13 @@ closed_one s at close d e p q = let k = ws_place s at p.bracket q.bracket p.whit
 apart : (s : List ℕ) (i j c : ℕ) → i ≡ j → get_or s i 0 ≡ c → (get_or s j 0 ≡ c → ⊥) → ⊥
 apart s i j c e p f = f (rw e at p)
 
-pub opens_one : (s : List ℕ) (at close : ℕ) (x y : Opened) → Opens s at close x → Opens s at close y → x ≡ y
-opens_one s at close (opened.First i) (opened.First j) p q = ap opened.First (ws_place s (at + 1) i j p.white q.white)
-opens_one s at close (opened.First i) (opened.Empty e) p q =
+pub opens_one : (s : List ℕ) (at close : ℕ) (x y : Next) → Opens s at close x → Opens s at close y → x ≡ y
+opens_one s at close (next.Item i) (next.Item j) p q = ap next.Item (ws_place s (at + 1) i j p.white q.white)
+opens_one s at close (next.Item i) (next.End e) p q =
     absurd (apart s q.bracket i close (ws_place s (at + 1) q.bracket i q.white p.white) q.is p.other)
-opens_one s at close (opened.Empty e) (opened.First i) p q =
+opens_one s at close (next.End e) (next.Item i) p q =
     absurd (apart s p.bracket i close (ws_place s (at + 1) p.bracket i p.white q.white) p.is q.other)
-opens_one s at close (opened.Empty d) (opened.Empty e) p q = ap opened.Empty (closed_one s (at + 1) close d e p q)
+opens_one s at close (next.End d) (next.End e) p q = ap next.End (closed_one s (at + 1) close d e p q)
 
 module _ (s : List ℕ) (at close : ℕ) (other : close ≡ 44 → ⊥) where
   more_closed : (j e : ℕ) → MoreAt s at j → ClosedAt s at close e → ⊥
@@ -106,16 +101,16 @@ module _ (s : List ℕ) (at close : ℕ) (other : close ≡ 44 → ⊥) where
       let k = ws_place s at p.comma q.comma p.white q.white in
       ws_place s (q.comma + 1) i j (rw k at p.spaces) q.spaces
 
-  pub follows_one : (x y : After) → Follows s at close x → Follows s at close y → x ≡ y
-  follows_one (after.More i) (after.More j) p q = ap after.More (more_one i j p q)
-  follows_one (after.More i) (after.Last e) p q = absurd (more_closed i e p q)
-  follows_one (after.More i) after.Wrong p q = absurd (more_neither i p q)
-  follows_one (after.Last e) (after.More j) p q = absurd (more_closed j e q p)
-  follows_one (after.Last d) (after.Last e) p q = ap after.Last (closed_one s at close d e p q)
-  follows_one (after.Last e) after.Wrong p q = absurd (closed_neither e p q)
-  follows_one after.Wrong (after.More j) p q = absurd (more_neither j q p)
-  follows_one after.Wrong (after.Last e) p q = absurd (closed_neither e q p)
-  follows_one after.Wrong after.Wrong p q = refl
+  pub follows_one : (x y : Option Next) → Follows s at close x → Follows s at close y → x ≡ y
+  follows_one (Some (next.Item i)) (Some (next.Item j)) p q = ap (λ i. Some (next.Item i)) (more_one i j p q)
+  follows_one (Some (next.Item i)) (Some (next.End e)) p q = absurd (more_closed i e p q)
+  follows_one (Some (next.Item i)) None p q = absurd (more_neither i p q)
+  follows_one (Some (next.End e)) (Some (next.Item j)) p q = absurd (more_closed j e q p)
+  follows_one (Some (next.End d)) (Some (next.End e)) p q = ap (λ e. Some (next.End e)) (closed_one s at close d e p q)
+  follows_one (Some (next.End e)) None p q = absurd (closed_neither e p q)
+  follows_one None (Some (next.Item j)) p q = absurd (more_neither j q p)
+  follows_one None (Some (next.End e)) p q = absurd (closed_neither e q p)
+  follows_one None None p q = refl
 
 unfoldable places : ℕ → ℕ → ℕ → ℕ → Member
 places a b v e = record { name = a; name_end = b; value = v; value_end = e }
@@ -133,9 +128,9 @@ member_one d s at m n p q =
     let e : m.value_end ≡ n.value_end = whole_place (value d) s n.value m.value_end n.value_end (rw v at p.holds) q.holds in
     same_places a b v e
 
-pub finds_one : (d : ℕ) (s : List ℕ) (at : ℕ) (x y : Found) → Finds d s at x → Finds d s at y → x ≡ y
+pub finds_one : (d : ℕ) (s : List ℕ) (at : ℕ) (x y : Option Member) → Finds d s at x → Finds d s at y → x ≡ y
 unfolding NoText
-finds_one d s at (found.At m) (found.At n) p q = ap found.At (member_one d s at m n p q)
-finds_one d s at (found.At m) found.Wrong p q = let t = member_text_lem d s at m p in absurd (q _ t.text.is t.ends)
-finds_one d s at found.Wrong (found.At n) p q = let t = member_text_lem d s at n q in absurd (p _ t.text.is t.ends)
-finds_one d s at found.Wrong found.Wrong p q = refl
+finds_one d s at (Some m) (Some n) p q = ap Some (member_one d s at m n p q)
+finds_one d s at (Some m) None p q = let t = member_text_lem d s at m p in absurd (q _ t.text.is t.ends)
+finds_one d s at None (Some n) p q = let t = member_text_lem d s at n q in absurd (p _ t.text.is t.ends)
+finds_one d s at None None p q = refl

@@ -1,5 +1,6 @@
 -- Laws of values, objects and arrays by their first byte. Assumes nothing.
 use mathlib.Core.Path.{◌≡◌, refl, sym, ◌∙◌}
+use Rattle.std.specs.Prelude.{Option, None, Some}
 use mathlib.Core.List.{List, [], ◌∷◌}
 use mathlib.Core.Logic.{◌⊎◌, inl, inr}
 use Prim.Native.Nat.{ℕ, zero, suc, ◌+◌, ◌-◌, ◌≤◌, ◌<◌}
@@ -10,8 +11,6 @@ use lib.Seq.{drop-cons}
 use Rattle.json_text.specs.Grammar.{Rule, byte, ◌then◌, ◌or◌, ws, scalar, string, white}
 use Rattle.json_text.specs.Tight.{member, array, object, value, begin_array, begin_object, name_separator, line}
 use Rattle.json_text.specs.Skips.{Not, Solid, WsTo, Ends, Follow, EndsAt, NoText, Skips}
-use Rattle.json_text.specs.declared.Skip.{Skip}
-use Rattle.json_text.specs.declared.Skip.TheVariants.{To, Wrong}
 use Rattle.json_text.proofs.WsLaws.{at_byte, byte_at, head_eq, tail_eq, ws_only, ws_ends}
 use Rattle.json_text.proofs.StepLaws.{Goes}
 use Rattle.json_text.proofs.ListLaws.{Dark, solid_byte, Headed}
@@ -64,19 +63,19 @@ module _ (s : List ℕ) (at : ℕ) where
   value_too_deep zero c e (inr k) z r p q = starts_not (scalar_starts _ r p) (λ y. y.no123 k) (at_byte s at c e (omega arith))
   value_too_deep (suc d) c e k z r p q = omega arith
 
-  pub skips_array : (d : ℕ) → get_or s at 0 ≡ 91 → (d ≡ 0 → ⊥) → (x : Skip) → Skips (array (value (d - 1))) s at x → Skips (value d) s at x
+  pub skips_array : (d : ℕ) → get_or s at 0 ≡ 91 → (d ≡ 0 → ⊥) → (x : Option ℕ) → Skips (array (value (d - 1))) s at x → Skips (value d) s at x
   unfolding value ◌or◌
   skips_array zero e f x h = absurd (f refl)
   skips_array (suc d) e f x h =
       skips_same (array (value d)) (value (suc d)) s at (λ r p. inr (inr p)) (λ r p. value_array d _ _ r (at_byte s at 91 e (omega arith)) p) x (rw sub-one at h)
 
-  pub skips_object : (d : ℕ) → get_or s at 0 ≡ 123 → (d ≡ 0 → ⊥) → (x : Skip) → Skips (object (value (d - 1))) s at x → Skips (value d) s at x
+  pub skips_object : (d : ℕ) → get_or s at 0 ≡ 123 → (d ≡ 0 → ⊥) → (x : Option ℕ) → Skips (object (value (d - 1))) s at x → Skips (value d) s at x
   unfolding value ◌or◌
   skips_object zero e f x h = absurd (f refl)
   skips_object (suc d) e f x h =
       skips_same (object (value d)) (value (suc d)) s at (λ r p. inr (inl p)) (λ r p. value_object d _ _ r (at_byte s at 123 e (omega arith)) p) x (rw sub-one at h)
 
-  pub skips_scalar : (d : ℕ) → (get_or s at 0 ≡ 91 → ⊥) → (get_or s at 0 ≡ 123 → ⊥) → (x : Skip) → Skips scalar s at x → Skips (value d) s at x
+  pub skips_scalar : (d : ℕ) → (get_or s at 0 ≡ 91 → ⊥) → (get_or s at 0 ≡ 123 → ⊥) → (x : Option ℕ) → Skips scalar s at x → Skips (value d) s at x
   skips_scalar d f g x h =
       skips_same scalar (value d) s at (λ r p. scalar_value d _ r p) (λ r p. value_scalar d _ r (λ b e. f (byte_at s at 91 b e)) (λ b e. g (byte_at s at 123 b e)) p) x h
 
@@ -160,10 +159,10 @@ module _ (v : Rule) (H : Headed 93 v) (s : List ℕ) (at : ℕ) where
             (drop e s, (name.is, (drop j s, ((drop n s, (w.is, (drop (n + 1) s, (f, u.is)))), p))))
 
 -- an answer by its case
-pub skips_to : (P : Rule) (s : List ℕ) (at : ℕ) (x : Skip) (e : ℕ) → Skips P s at x → x ≡ To e → EndsAt P s at e
+pub skips_to : (P : Rule) (s : List ℕ) (at : ℕ) (x : Option ℕ) (e : ℕ) → Skips P s at x → x ≡ Some e → EndsAt P s at e
 skips_to P s at x e h q = rw q at h
 
-pub skips_wrong : (P : Rule) (s : List ℕ) (at : ℕ) (x : Skip) → Skips P s at x → x ≡ Wrong → NoText P s at
+pub skips_wrong : (P : Rule) (s : List ℕ) (at : ℕ) (x : Option ℕ) → Skips P s at x → x ≡ None → NoText P s at
 skips_wrong P s at x h q = rw q at h
 
 -- a whole line

@@ -1,3 +1,4 @@
 -- What the promises of this crate cite.
 pub mod Places
 pub mod Reading
+pub mod Kinds

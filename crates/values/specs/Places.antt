@@ -1,15 +1,12 @@
 -- What the functions of this crate answer, at places of a text.
 use Rattle.std.specs.Prelude.{◌≡◌, List, ℕ, ◌+◌, get_or}
+use Rattle.std.specs.Prelude.{Option, None, Some}
 use Rattle.json_text.specs.Grammar.{string}
 use Rattle.json_text.specs.Tight.{member, value}
 use Rattle.json_text.specs.Skips.{WsTo, OnlyAt, WholeAt, NoText}
-use Rattle.values.specs.declared.Opened.{Opened}
-use Rattle.values.specs.declared.Opened.TheVariants as opened
-use Rattle.values.specs.declared.After.{After}
-use Rattle.values.specs.declared.After.TheVariants as after
+use Rattle.values.specs.declared.Next.{Next}
+use Rattle.values.specs.declared.Next.TheVariants as next
 use Rattle.values.specs.declared.Member.{Member}
-use Rattle.values.specs.declared.Found.{Found}
-use Rattle.values.specs.declared.Found.TheVariants as found
 
 -- ---- the ends of a list
 
@@ -25,9 +22,9 @@ pub record FirstAt (s : List ℕ) (at close i : ℕ) : Type 0 where
   pub white : WsTo s (at + 1) i
   pub other : get_or s i 0 ≡ close → ⊥
 
-abbrev pub Opens : List ℕ → ℕ → ℕ → Opened → Type 0
-Opens s at close (opened.First i) = FirstAt s at close i
-Opens s at close (opened.Empty e) = ClosedAt s (at + 1) close e
+abbrev pub Opens : List ℕ → ℕ → ℕ → Next → Type 0
+Opens s at close (next.Item i) = FirstAt s at close i
+Opens s at close (next.End e) = ClosedAt s (at + 1) close e
 
 -- another item stands at j, after white space, a comma and white space
 pub record MoreAt (s : List ℕ) (at j : ℕ) : Type 0 where
@@ -43,10 +40,10 @@ pub record NeitherAt (s : List ℕ) (at close : ℕ) : Type 0 where
   pub no_comma : get_or s place 0 ≡ 44 → ⊥
   pub no_close : get_or s place 0 ≡ close → ⊥
 
-abbrev pub Follows : List ℕ → ℕ → ℕ → After → Type 0
-Follows s at close (after.More j) = MoreAt s at j
-Follows s at close (after.Last e) = ClosedAt s at close e
-Follows s at close after.Wrong = NeitherAt s at close
+abbrev pub Follows : List ℕ → ℕ → ℕ → Option Next → Type 0
+Follows s at close (Some (next.Item j)) = MoreAt s at j
+Follows s at close (Some (next.End e)) = ClosedAt s at close e
+Follows s at close None = NeitherAt s at close
 
 -- ---- a member
 
@@ -61,6 +58,6 @@ pub record MemberAt (d : ℕ) (s : List ℕ) (at : ℕ) (m : Member) : Type 0 wh
   pub spaces : WsTo s (colon + 1) m.value
   pub holds : WholeAt (value d) s m.value m.value_end
 
-abbrev pub Finds : ℕ → List ℕ → ℕ → Found → Type 0
-Finds d s at (found.At m) = MemberAt d s at m
-Finds d s at found.Wrong = NoText (member (value d)) s at
+abbrev pub Finds : ℕ → List ℕ → ℕ → Option Member → Type 0
+Finds d s at (Some m) = MemberAt d s at m
+Finds d s at None = NoText (member (value d)) s at

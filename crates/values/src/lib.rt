@@ -7,23 +7,15 @@ ghost use Rattle.std.specs.Prelude.{◌≡◌, ◌<◌, ◌≤◌, length, get_o
 ghost use Rattle.json_text.specs.Tight.{value, array, object, member};
 ghost use Rattle.json_text.specs.Skips.{Skips, Placed};
 ghost use Rattle.values.specs.Places.{Opens, Follows, Finds};
+ghost use Rattle.values.specs.Kinds.{open_of, close_of, list_of, item_of};
 
-use json_text::{Skip, can_end, peek, skip_scalar, skip_string, skip_ws};
+use json_text::{can_end, peek, skip_scalar, skip_string, skip_ws};
 
-// What stands behind an opening bracket: the first item, or the closing bracket and then a place.
+// Where a walk over a list stands: at an item, or behind the closing bracket. (No Option: each has its place.)
 #[derive(Clone, Copy)]
-pub enum Opened {
-    First(usize),
-    Empty(usize),
-}
-
-// What stands behind an item: a comma and then another item, the closing bracket and then a place, or
-// neither.
-#[derive(Clone, Copy)]
-pub enum After {
-    More(usize),
-    Last(usize),
-    Wrong,
+pub enum Next {
+    Item(usize),
+    End(usize),
 }
 
 // The places of a member: its name with the quotation marks, and its value.
@@ -35,101 +27,98 @@ pub struct Member {
     pub value_end: usize,
 }
 
-// A member, or that none stands there.
+// ---- Passing over
+
+// The two kinds of list, an object's items being its members.
 #[derive(Clone, Copy)]
-pub enum Found {
-    At(Member),
-    Wrong,
+enum Kind {
+    Array,
+    Object,
 }
 
-// ---- Passing over
+impl Kind {
+    fn close(self) -> u8
+        ensures { result ≡ close_of self }
+    {
+        match self {
+            Kind::Array => b']',
+            Kind::Object => b'}',
+        }
+    }
+}
 
 // Passes over a value in which objects and arrays go at most `depth` deep.
 #[cycle(skips)]
-fn skip_value(s: &[u8], at: usize, depth: usize) -> Skip
+fn skip_value(s: &[u8], at: usize, depth: usize) -> Option<usize>
     requires { at ≤ length s.now }
     ensures { Skips (value depth) s.now at result }
 {
-    let b = peek(s, at);
-    if b == 91 {
-        if depth == 0 {
-            return Skip::Wrong;
-        }
-        return skip_array(s, at, depth - 1);
+    match peek(s, at) {
+        b'[' => skip_array(s, at, depth.checked_sub(1)?),
+        b'{' => skip_object(s, at, depth.checked_sub(1)?),
+        _ => skip_scalar(s, at),
     }
-    if b == 123 {
-        if depth == 0 {
-            return Skip::Wrong;
-        }
-        return skip_object(s, at, depth - 1);
-    }
-    skip_scalar(s, at)
 }
 
-// Passes over an array whose values go at most `depth` deep.
+// Passes over an array whose values go at most `depth` deep. It and the next stand apart, since the rules name
+// the array skipper and the object skipper that a value calls.
 #[cycle(skips)]
-fn skip_array(s: &[u8], at: usize, depth: usize) -> Skip
+fn skip_array(s: &[u8], at: usize, depth: usize) -> Option<usize>
     requires { get_or s.now at 0 ≡ 91 }
     ensures { Skips (array (value depth)) s.now at result }
 {
-    let mut i = skip_ws(s, at + 1);
-    if peek(s, i) == 93 {
-        return Skip::To(i + 1);
-    }
-    loop {
-        let Skip::To(e) = skip_value(s, i, depth) else {
-            return Skip::Wrong;
-        };
-        let n = skip_ws(s, e);
-        let b = peek(s, n);
-        if b == 93 {
-            return Skip::To(n + 1);
-        }
-        if b != 44 {
-            return Skip::Wrong;
-        }
-        i = skip_ws(s, n + 1);
-    }
+    skip_list(s, at, Kind::Array, depth)
 }
 
 // Passes over an object whose values go at most `depth` deep.
 #[cycle(skips)]
-fn skip_object(s: &[u8], at: usize, depth: usize) -> Skip
+fn skip_object(s: &[u8], at: usize, depth: usize) -> Option<usize>
     requires { get_or s.now at 0 ≡ 123 }
     ensures { Skips (object (value depth)) s.now at result }
 {
-    let mut i = skip_ws(s, at + 1);
-    if peek(s, i) == 125 {
-        return Skip::To(i + 1);
-    }
+    skip_list(s, at, Kind::Object, depth)
+}
+
+// Passes over a list whose values go at most `depth` deep: what an array and an object have in common.
+#[cycle(skips)]
+fn skip_list(s: &[u8], at: usize, kind: Kind, depth: usize) -> Option<usize>
+    requires { get_or s.now at 0 ≡ open_of kind }
+    ensures { Skips (list_of kind (value depth)) s.now at result }
+{
+    let mut next = open_at(s, at, kind.close());
     loop {
-        let Skip::To(e) = skip_member(s, i, depth) else {
-            return Skip::Wrong;
-        };
-        let n = skip_ws(s, e);
-        let b = peek(s, n);
-        if b == 125 {
-            return Skip::To(n + 1);
+        match next {
+            Next::End(e) => return Some(e),
+            Next::Item(i) => {
+                let e = skip_item(s, i, kind, depth)?;
+                next = after_item(s, e, kind.close())?;
+            }
         }
-        if b != 44 {
-            return Skip::Wrong;
-        }
-        i = skip_ws(s, n + 1);
+    }
+}
+
+// Passes over an item of a list whose values go at most `depth` deep.
+#[cycle(skips)]
+fn skip_item(s: &[u8], at: usize, kind: Kind, depth: usize) -> Option<usize>
+    requires { at ≤ length s.now }
+    ensures { Skips (item_of kind (value depth)) s.now at result }
+{
+    match kind {
+        Kind::Array => skip_value(s, at, depth),
+        Kind::Object => skip_member(s, at, depth),
     }
 }
 
 // Passes over a member whose value goes at most `depth` deep.
 #[cycle(skips)]
-fn skip_member(s: &[u8], at: usize, depth: usize) -> Skip
+fn skip_member(s: &[u8], at: usize, depth: usize) -> Option<usize>
     requires { at ≤ length s.now }
     ensures { Skips (member (value depth)) s.now at result }
 {
-    let Skip::To(e) = skip_string(s, at) else {
-        return Skip::Wrong;
-    };
+    let e = skip_string(s, at)?;
     let n = skip_ws(s, e);
-    if peek(s, n) != 58 {
-        return Skip::Wrong;
+    if peek(s, n) != b':' {
+        return None;
     }
     let v = skip_ws(s, n + 1);
     skip_value(s, v, depth)
@@ -139,64 +128,58 @@ fn skip_member(s: &[u8], at: usize, depth: usize) -> Skip
 
 // The end of the value at `at`, in which objects and arrays go at most `depth` deep, where what follows
 // can follow one.
-pub fn value_at(s: &[u8], at: usize, depth: usize) -> Skip
+pub fn value_at(s: &[u8], at: usize, depth: usize) -> Option<usize>
     requires { at ≤ length s.now }
     ensures { Placed (value depth) s.now at result }
 {
-    let Skip::To(e) = skip_value(s, at, depth) else {
-        return Skip::Wrong;
-    };
+    let e = skip_value(s, at, depth)?;
     if can_end(s, e) {
-        return Skip::To(e);
+        return Some(e);
     }
-    Skip::Wrong
+    None
 }
 
 // The first item of the list whose opening bracket stands at `at`.
-pub fn open_at(s: &[u8], at: usize, close: u8) -> Opened
+pub fn open_at(s: &[u8], at: usize, close: u8) -> Next
     requires { (at < length s.now) × (0 < close) }
     ensures { Opens s.now at close result }
 {
     let i = skip_ws(s, at + 1);
     if peek(s, i) == close {
-        return Opened::Empty(i + 1);
+        return Next::End(i + 1);
     }
-    Opened::First(i)
+    Next::Item(i)
 }
 
 // What follows the item of a list that ends at `at`.
-pub fn after_item(s: &[u8], at: usize, close: u8) -> After
+pub fn after_item(s: &[u8], at: usize, close: u8) -> Option<Next>
     requires { (at ≤ length s.now) × ((0 < close) × (close ≡ 44 → ⊥)) }
     ensures { Follows s.now at close result }
 {
     let i = skip_ws(s, at);
     let b = peek(s, i);
     if b == close {
-        return After::Last(i + 1);
+        return Some(Next::End(i + 1));
     }
-    if b == 44 {
-        return After::More(skip_ws(s, i + 1));
+    if b == b',' {
+        return Some(Next::Item(skip_ws(s, i + 1)));
     }
-    After::Wrong
+    None
 }
 
 // The member at `at`, whose value goes at most `depth` deep, where what follows can follow one.
-pub fn member_at(s: &[u8], at: usize, depth: usize) -> Found
+pub fn member_at(s: &[u8], at: usize, depth: usize) -> Option<Member>
     requires { at ≤ length s.now }
     ensures { Finds depth s.now at result }
 {
-    let Skip::To(name_end) = skip_string(s, at) else {
-        return Found::Wrong;
-    };
+    let name_end = skip_string(s, at)?;
     let colon = skip_ws(s, name_end);
-    if peek(s, colon) != 58 {
-        return Found::Wrong;
+    if peek(s, colon) != b':' {
+        return None;
     }
     let value = skip_ws(s, colon + 1);
-    let Skip::To(value_end) = value_at(s, value, depth) else {
-        return Found::Wrong;
-    };
-    Found::At(Member {
+    let value_end = value_at(s, value, depth)?;
+    Some(Member {
         name: at,
         name_end,
         value,

@@ -1,14 +1,14 @@
 -- Adding a path oldest first leaves what adding it newest first leaves. Assumes nothing.
 use mathlib.Core.Path.{◌≡◌, refl, sym, ap, ◌∙◌, subst}
+use Rattle.std.specs.declared.cmp.Ordering.TheVariants.{Less, Equal, Greater}
+use Rattle.std.specs.declared.cmp.Ordering.{Ordering}
 use mathlib.Core.List.{List, [], ◌∷◌, ◌++◌}
 use mathlib.Core.Logic.{◌⊎◌, inl, inr, ⊎_elim}
-use mathlib.Core.Option.{Option, none, some}
+use Rattle.std.specs.Prelude.{Option, None, Some}
 use Prim.Native.Nat.{ℕ, zero, suc, ◌+◌, ◌≤◌, ◌<◌}
 use native.Mathlib.Omega.{arith}
 use lib.ListN.{length, take, drop}
 use Rattle.rules.specs.declared.Content.{Content}
-use Rattle.rules.specs.declared.Order.{Order}
-use Rattle.rules.specs.declared.Order.TheVariants.{Less, Equal, Greater}
 use Rattle.rules.specs.declared.Revision.{Revision}
 use Rattle.rules.specs.Map.{Map, find, alter, Ascending}
 use Rattle.rules.specs.Order.{order_rev}
@@ -19,7 +19,7 @@ use Rattle.rules.proofs.OrderLaws.{TotalOrder, less≢equal, equal≢greater, re
 use Rattle.rules.proofs.MapLaws.{find_same, find_other, ascending_alter, ext}
 use Rattle.writes.specs.Path.{add_last}
 
-equal_or_not : (o : Order) → (o ≡ Equal) ⊎ (o ≡ Equal → ⊥)
+equal_or_not : (o : Ordering) → (o ≡ Equal) ⊎ (o ≡ Equal → ⊥)
 equal_or_not Less = inr less≢equal
 equal_or_not Equal = inl refl
 equal_or_not Greater = inr (λ e. equal≢greater (sym e))
@@ -36,7 +36,7 @@ module _ {K A : Type 0} (O : TotalOrder K) where
   first_kept j k f g t n =
       find_other O j k g (alter O.cmp j f t) n
       ∙ (find_same O j f t
-      ∙ (ap (λ (o : Option A). some (f o)) (sym (find_other O j k g t n)) ∙ sym (find_same O j f (alter O.cmp k g t))))
+      ∙ (ap (λ (o : Option A). Some (f o)) (sym (find_other O j k g t n)) ∙ sym (find_same O j f (alter O.cmp k g t))))
 
   swap_at : (j k : K) (f g : Option A → A) (t : Map K A) → (O.cmp j k ≡ Equal → ⊥) → (O.cmp k j ≡ Equal → ⊥) → (v : K)
       → has v (alter O.cmp j f (alter O.cmp k g t)) ≡ has v (alter O.cmp k g (alter O.cmp j f t))
@@ -76,13 +76,13 @@ lower_along : (n m : ℕ) (hs : List Hash) (c : Option Content) → length hs �
 unfolding along
 lower_along n m [] c h l = tt
 lower_along zero m (x ∷ hs) c h l = absurd (omega arith)
-lower_along (suc n) m (x ∷ hs) c h l = (l, lower_along n m hs none (omega arith) (omega arith))
+lower_along (suc n) m (x ∷ hs) c h l = (l, lower_along n m hs None (omega arith) (omega arith))
 
 pub falls_along : (n : ℕ) (hs : List Hash) (c : Option Content) → length hs ≤ n → Falls (along n hs c)
 unfolding along
 falls_along n [] c h = tt
 falls_along zero (x ∷ hs) c h = absurd (omega arith)
-falls_along (suc n) (x ∷ hs) c h = (lower_along n (suc n) hs none (omega arith) (omega arith), falls_along n hs none (omega arith))
+falls_along (suc n) (x ∷ hs) c h = (lower_along n (suc n) hs None (omega arith) (omega arith), falls_along n hs None (omega arith))
 
 -- ---- the oldest first
 
@@ -123,7 +123,7 @@ module _ {K A : Type 0} (O : TotalOrder K) where
   length_alter k f [] = refl
   length_alter k f (x ∷ t) = go (O.cmp k x.0) refl (length_alter k f t)
     where
-      go : (o : Order) → O.cmp k x.0 ≡ o → length (alter O.cmp k f t) ≡ pick (is_none (find O.cmp k t)) 1 0 + length t
+      go : (o : Ordering) → O.cmp k x.0 ≡ o → length (alter O.cmp k f t) ≡ pick (is_none (find O.cmp k t)) 1 0 + length t
           → length (alter O.cmp k f (x ∷ t)) ≡ pick (is_none (find O.cmp k (x ∷ t))) 1 0 + suc (length t)
       go Less e ih = rw e (omega arith)
       go Equal e ih = rw e (omega arith)

@@ -2,7 +2,7 @@
 use mathlib.Core.Path.{◌≡◌, refl, sym, ap, ◌∙◌}
 use mathlib.Core.Bool.{true, false, not, ◌||◌}
 use mathlib.Core.List.{List}
-use mathlib.Core.Option.{none, some}
+use Rattle.std.specs.Prelude.{None, Some}
 use Prim.Native.Nat.{ℕ, ◌/◌, ◌%◌, ◌≤◌}
 use native.Mathlib.Omega.{arith}
 use lib.Dec.{eqb, ltb}
@@ -54,19 +54,19 @@ module _ (w : Write) where
 -- ---- the first that holds
 
 module _ (w : Write) where
-  pub form_1 : bad_id w.id ≡ true → first_that (form_refusals w) ≡ some BadId
+  pub form_1 : bad_id w.id ≡ true → first_that (form_refusals w) ≡ Some BadId
   unfolding first_that
   form_1 i = rw i refl
 
-  pub form_2 : bad_id w.id ≡ false → bad_path w ≡ true → first_that (form_refusals w) ≡ some BadPath
+  pub form_2 : bad_id w.id ≡ false → bad_path w ≡ true → first_that (form_refusals w) ≡ Some BadPath
   unfolding first_that
   form_2 i p = rw (i, p) refl
 
-  pub form_3 : bad_id w.id ≡ false → bad_path w ≡ false → low_number w ≡ true → first_that (form_refusals w) ≡ some LowNumber
+  pub form_3 : bad_id w.id ≡ false → bad_path w ≡ false → low_number w ≡ true → first_that (form_refusals w) ≡ Some LowNumber
   unfolding first_that
   form_3 i p n = rw (i, p, n) refl
 
-  pub form_clear : bad_id w.id ≡ false → bad_path w ≡ false → low_number w ≡ false → first_that (form_refusals w) ≡ none
+  pub form_clear : bad_id w.id ≡ false → bad_path w ≡ false → low_number w ≡ false → first_that (form_refusals w) ≡ None
   form_clear i p n = holds_none (form_refusals w) (i, (p, (n, tt)))
 
 -- ---- a good form
@@ -74,7 +74,7 @@ module _ (w : Write) where
 pub positive : (k : ℕ) → (k ≡ 0 → ⊥) → 1 ≤ k
 positive k h = omega arith
 
-pub good_form : (w : Write) → first_that (form_refusals w) ≡ none → GoodForm w
+pub good_form : (w : Write) → first_that (form_refusals w) ≡ None → GoodForm w
 unfolding bad_id count_of
 good_form w e =
     let a = none_holds (form_refusals w) e in

@@ -1,12 +1,12 @@
 -- From the promise alone: every write leaves a replica, every other document answers as before, and where
 -- it is refused or changes nothing every byte is as before. Assumes nothing.
 use mathlib.Core.Path.{◌≡◌, sym, ap, ◌∙◌}
+use Rattle.rules.specs.declared.Outcome.{Outcome}
+use Rattle.std.specs.Prelude.{Result, Ok, Err}
 use mathlib.Core.List.{List}
 use Prim.Native.Nat.{ℕ}
 use Rattle.rules.specs.declared.Outcome.TheVariants.{Unchanged}
 use Rattle.rules.specs.declared.Refusal.{Refusal}
-use Rattle.rules.specs.declared.Written.{Written}
-use Rattle.rules.specs.declared.Written.TheVariants.{Accepted, Refused}
 use Rattle.rules.specs.Outcome.{Call}
 use Rattle.rules.specs.Replica.{Id, Replica, document_of, IsReplica}
 use Rattle.rules.specs.Write.{Write}
@@ -58,20 +58,20 @@ module _ (c : Call _ write.ps write.r write'.Asked write'.Learnt) where
   write_framed = framed given.id lent left c.asks c.promise.is c.promise.means (union.write_frame (replica_of lent) given)
 
   -- "A refusal .. alters neither replica nor buffer"
-  pub write_refused : (n : Refusal) → c.result ≡ Refused n → left ≡ lent
+  pub write_refused : (n : Refusal) → c.result ≡ Err n → left ≡ lent
   write_refused n e =
       let p = c.promise in
       write_framed.same (p.means ∙ union.write_refused (replica_of lent) given n (sym p.answer ∙ e))
 
   -- "Where nothing was added the answer is unchanged and the sequence stays": so does every byte.
-  pub write_unchanged : c.result ≡ Accepted Unchanged → left ≡ lent
+  pub write_unchanged : c.result ≡ Ok Unchanged → left ≡ lent
   write_unchanged e =
       let p = c.promise in
       write_framed.same (p.means ∙ union.write_unchanged (replica_of lent) given (sym p.answer ∙ e))
 
 -- "Only the update sequence and the shared room connect them.": a write to buffers alike in its document, in
 -- update sequence and in both counts is answered alike, and leaves them alike in these
-pub write_alike : (w : Write) (s t : List ℕ) (x y : Written) (s' t' : List ℕ) → AlikeAt w.id (replica_of s) (replica_of t) → Wrote s w x s' → Wrote t w y t'
+pub write_alike : (w : Write) (s t : List ℕ) (x y : Result Outcome Refusal) (s' t' : List ℕ) → AlikeAt w.id (replica_of s) (replica_of t) → Wrote s w x s' → Wrote t w y t'
     → (x ≡ y) × AlikeAt w.id (replica_of s') (replica_of t')
 write_alike w s t x y s' t' h p q =
     let u = union.write_alike w (replica_of s) (replica_of t) h in (p.answer ∙ (u.0 ∙ sym q.answer), rw (p.means, q.means) u.1)

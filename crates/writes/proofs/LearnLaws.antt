@@ -1,7 +1,7 @@
 -- The loop that adds a path: what is held after each revision, and that there is room for the next. Assumes nothing.
 use mathlib.Core.Path.{◌≡◌, sym, ap, ap₂, ◌∙◌, subst}
 use mathlib.Core.List.{List, [], ◌∷◌}
-use mathlib.Core.Option.{Option, none, some}
+use Rattle.std.specs.Prelude.{Option, None, Some}
 use Prim.Native.Nat.{ℕ, zero, suc, ◌+◌, ◌-◌, ◌≤◌, ◌<◌}
 use native.Mathlib.Numerals.{add-one}
 use native.Mathlib.Omega.{arith}
@@ -34,7 +34,7 @@ pub falls_gives : (number : RevNumber) (path : List ℕ) (c : Content) → count
 unfolding gives_of gives
 falls_gives number path c h =
     let w : Write = write_of [] number path c in
-    falls_along number.0 (hashes w) (some c) (let l = length-hashes w in omega arith)
+    falls_along number.0 (hashes w) (Some c) (let l = length-hashes w in omega arith)
 
 -- ---- trees of one document
 
@@ -92,7 +92,7 @@ module _ (r : Replica) (d : ℕ) (gs : List (Revision × Node)) (h : d < length 
         body = l.body;
         ascending = subst (Ascending order_rev) (sym u) (ascending_add_last rest t ascending);
         room = λ z.
-            let a : find order_rev v.0 t ≡ none = sym (above_stays v.0 rest t f.0) ∙ (ap (find order_rev v.0) (sym u) ∙ z) in
+            let a : find order_rev v.0 t ≡ None = sym (above_stays v.0 rest t f.0) ∙ (ap (find order_rev v.0) (sym u) ∙ z) in
             let o : ◌≡◌ {A = ℕ} (pick (is_none (find order_rev v.0 t)) 1 0) 1 = ap {B = ℕ} (λ (q : Option Node). pick (is_none q) 1 0) a in
             omega arith;
       }

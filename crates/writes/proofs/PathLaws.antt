@@ -2,7 +2,7 @@
 use mathlib.Core.Path.{◌≡◌, refl, sym, ap, ap₂, ◌∙◌, subst}
 use mathlib.Core.Bool.{Bool, true, false}
 use mathlib.Core.List.{List, [], ◌∷◌}
-use mathlib.Core.Option.{Option, none, some}
+use Rattle.std.specs.Prelude.{Option, None, Some}
 use Prim.Native.Nat.{ℕ, zero, suc, pred, ◌+◌, ◌-◌, ◌/◌, ◌≤◌, ◌<◌}
 use native.Mathlib.Numerals.{sub-one}
 use native.Mathlib.Omega.{arith}
@@ -24,14 +24,14 @@ use Rattle.writes.specs.Path.{count_of, hash_at, rev_at, parent_at, content_at, 
 length-along : (n : ℕ) (hs : List Hash) (c : Option Content) → length (along n hs c) ≡ length hs
 unfolding along
 length-along n [] c = refl
-length-along n (h ∷ hs) c = ap suc (length-along (pred n) hs none)
+length-along n (h ∷ hs) c = ap suc (length-along (pred n) hs None)
 
 -- the content given k hashes after the newest
 abbrev pub later : ℕ → Option Content → Option Content
 later zero c = c
-later (suc k) c = none
+later (suc k) c = None
 
-later_none : (k : ℕ) → later k none ≡ none
+later_none : (k : ℕ) → later k None ≡ None
 later_none zero = refl
 later_none (suc k) = refl
 
@@ -43,14 +43,14 @@ unfolding along
 drop-along zero n hs c = let z : n ≡ n - 0 = omega arith in ap (λ (m : ℕ). along m hs c) z
 drop-along (suc k) n [] c = refl
 drop-along (suc k) n (h ∷ hs) c =
-    drop-along k (pred n) hs none ∙ ap₂ (λ (m : ℕ) (o : Option Content). along m (drop k hs) o) (pred_sub n k) (later_none k)
+    drop-along k (pred n) hs None ∙ ap₂ (λ (m : ℕ) (o : Option Content). along m (drop k hs) o) (pred_sub n k) (later_none k)
 
 -- ---- the k-th of what a write gives
 
 pub length-gives : (w : Write) → length (gives w) ≡ count_of w.path
 unfolding gives hashes count_of
 length-gives w =
-    length-along w.number.0 (hashes w) (some w.content) ∙ length-pieces (length w.path / hash_size) hash_size w.path
+    length-along w.number.0 (hashes w) (Some w.content) ∙ length-pieces (length w.path / hash_size) hash_size w.path
 
 next_hash : (w : Write) (k : ℕ) → k < count_of w.path → drop k (hashes w) ≡ hash_at w.path k ∷ drop (suc k) (hashes w)
 unfolding hashes hash_at count_of
@@ -66,9 +66,9 @@ no_hash w k h =
     let l : length (hashes w) ≤ k = subst (λ (x : ℕ). x ≤ k) (sym (length-pieces m hash_size w.path)) h in
     drop_of_length-le (hashes w) l
 
-later_at : (k : ℕ) (c : Content) → later k (some c) ≡ content_at c k
+later_at : (k : ℕ) (c : Content) → later k (Some c) ≡ content_at c k
 later_at zero c = refl
-later_at (suc k) c = ap (λ (t : Bool). pick t (some c) none) (sym (ne_eqb (suc k) 0 (λ e. omega arith)))
+later_at (suc k) c = ap (λ (t : Bool). pick t (Some c) None) (sym (ne_eqb (suc k) 0 (λ e. omega arith)))
 
 parent_next : (w : Write) (k : ℕ) → newest_of (pred (w.number.0 - k)) (drop (suc k) (hashes w)) ≡ parent_at w.number.0 w.path k
 unfolding parent_at rev_at
@@ -78,7 +78,7 @@ parent_next w k = go (ltb (k + 1) (count_of w.path)) refl
     n = w.number.0
 
     parent : Option Revision
-    parent = some (rev_at n w.path (k + 1))
+    parent = Some (rev_at n w.path (k + 1))
 
     go : (t : Bool) → ltb (k + 1) (count_of w.path) ≡ t → newest_of (pred (n - k)) (drop (suc k) (hashes w)) ≡ parent_at n w.path k
     go true e =
@@ -86,10 +86,10 @@ parent_next w k = go (ltb (k + 1) (count_of w.path)) refl
         let a : pred (n - k) ≡ n - (k + 1) = let s = sub-one (n - k) in omega arith in
         let b : suc k ≡ k + 1 = omega arith in
         ap (newest_of (pred (n - k))) (next_hash w (suc k) (omega arith))
-        ∙ (ap₂ (λ (x y : ℕ). some (revision x (hash_at w.path y))) a b ∙ sym (ap (λ (t : Bool). pick t parent none) e))
+        ∙ (ap₂ (λ (x y : ℕ). Some (revision x (hash_at w.path y))) a b ∙ sym (ap (λ (t : Bool). pick t parent None) e))
     go false e =
         let l = ltb-false (k + 1) (count_of w.path) e in
-        ap (newest_of (pred (n - k))) (no_hash w (suc k) (omega arith)) ∙ sym (ap (λ (t : Bool). pick t parent none) e)
+        ap (newest_of (pred (n - k))) (no_hash w (suc k) (omega arith)) ∙ sym (ap (λ (t : Bool). pick t parent None) e)
 
 -- what is left from the k-th on
 pub gives_next : (w : Write) (k : ℕ) → k < count_of w.path → drop k (gives w) ≡ given_at w.number.0 w.path w.content k ∷ drop (suc k) (gives w)
@@ -97,14 +97,14 @@ unfolding gives given_at along rev_at
 gives_next w k h =
     let n : ℕ = w.number.0 in
     let p : pred (n - k) ≡ n - suc k = let s = sub-one (n - k) in omega arith in
-    drop-along k n (hashes w) (some w.content)
-    ∙ (ap (λ (hs : List Hash). along (n - k) hs (later k (some w.content))) (next_hash w k h)
+    drop-along k n (hashes w) (Some w.content)
+    ∙ (ap (λ (hs : List Hash). along (n - k) hs (later k (Some w.content))) (next_hash w k h)
     ∙ (ap₂
     (λ (o : Option Revision) (c : Option Content).
-    (revision (n - k) (hash_at w.path k), record { parent = o; content = c }) ∷ along (pred (n - k)) (drop (suc k) (hashes w)) none)
+    (revision (n - k) (hash_at w.path k), record { parent = o; content = c }) ∷ along (pred (n - k)) (drop (suc k) (hashes w)) None)
     (parent_next w k) (later_at k w.content)
     ∙ ap (λ (l : List (Revision × Node)). given_at n w.path w.content k ∷ l)
-    (ap (λ (m : ℕ). along m (drop (suc k) (hashes w)) none) p ∙ sym (drop-along (suc k) n (hashes w) (some w.content)))))
+    (ap (λ (m : ℕ). along m (drop (suc k) (hashes w)) None) p ∙ sym (drop-along (suc k) n (hashes w) (Some w.content)))))
 
 -- the id doesn't matter
 pub gives_of_lem : (w : Write) → gives w ≡ gives_of w.number w.path w.content

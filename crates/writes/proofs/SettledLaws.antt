@@ -1,8 +1,10 @@
 -- A row that the path adds nothing to: how its bytes show it, and that the plan stays as it is. Assumes nothing.
 use mathlib.Core.Path.{◌≡◌, refl, sym, ap, ◌∙◌}
+use Rattle.std.specs.declared.cmp.Ordering.TheVariants.{Less, Equal, Greater}
+use Rattle.std.specs.declared.cmp.Ordering.{Ordering}
 use mathlib.Core.Bool.{Bool, true, false, not, ◌&&◌, ◌||◌, true≢false}
 use mathlib.Core.List.{List}
-use mathlib.Core.Option.{Option, none, some}
+use Rattle.std.specs.Prelude.{Option, None, Some}
 use Prim.Native.Nat.{ℕ, pred, ◌+◌, ◌-◌, ◌*◌, ◌≤◌, ◌<◌}
 use native.Mathlib.Nat.{add-zero}
 use native.Mathlib.Numerals.{sub-one}
@@ -11,8 +13,6 @@ use lib.Dec.{eqb}
 use lib.ListN.{length, get_or}
 use borrow.Author.Tests.{eq-eqb, ne_eqb, eqb-false, not-true, lt-ltb, le-ltb}
 use Rattle.rules.specs.declared.Content.{Content}
-use Rattle.rules.specs.declared.Order.{Order}
-use Rattle.rules.specs.declared.Order.TheVariants.{Less, Equal, Greater}
 use Rattle.rules.specs.declared.Revision.{Revision}
 use Rattle.rules.specs.Bytes.{value, part, Bytes}
 use Rattle.rules.specs.Choice.{pick, maybe}
@@ -25,7 +25,7 @@ use Rattle.rules.specs.Write.{lacks_parent, differ, agree}
 use Rattle.rules.proofs.ByteLaws.{length_part, part-part}
 use Rattle.rules.proofs.OrderLaws.{order_n_same, order_n_self, rev_order, same_rev_true}
 use Rattle.octets.proofs.ByteOrderLaws.{order_halves, order_value}
-use Rattle.tree.specs.Rows.{meaning, row_from, node_held, node_at}
+use Rattle.tree.specs.Rows.{parent_of, meaning, row_from, node_held, node_at}
 use Rattle.tree.specs.Rows as rows
 use Rattle.tree.specs.declared.table.Body.{Body}
 use Rattle.tree.specs.Table.{tree_in, row_start, Searchable}
@@ -56,7 +56,7 @@ module _ (a b : List ℕ) (p q : ℕ) (h : p + hash_size ≤ length a) (i : q + 
   pub first_differ : (value (part p 8 a) ≡ value (part q 8 b) → ⊥) → is_equal (order_bytes (part p hash_size a) (part q hash_size b)) ≡ false
   first_differ d = ap is_equal halves ∙ go (order_n (value (part p 8 a)) (value (part q 8 b))) refl
     where
-      go : (o : Order) → order_n (value (part p 8 a)) (value (part q 8 b)) ≡ o → is_equal (and_then o (order_bytes (part (p + 8) 8 a) (part (q + 8) 8 b))) ≡ false
+      go : (o : Ordering) → order_n (value (part p 8 a)) (value (part q 8 b)) ≡ o → is_equal (and_then o (order_bytes (part (p + 8) 8 a) (part (q + 8) 8 b))) ≡ false
       go Less e = refl
       go Equal e = absurd (d (order_n_same _ _ e))
       go Greater e = refl
@@ -64,10 +64,10 @@ module _ (a b : List ℕ) (p q : ℕ) (h : p + hash_size ≤ length a) (i : q + 
   equal_is : (x y : ℕ) → is_equal (order_n x y) ≡ eqb x y
   equal_is x y = go (order_n x y) refl
     where
-      other : (o : Order) → order_n x y ≡ o → is_equal o ≡ false → eqb x y ≡ false
+      other : (o : Ordering) → order_n x y ≡ o → is_equal o ≡ false → eqb x y ≡ false
       other o e f = ne_eqb x y (λ z. true≢false (sym (ap is_equal (order_n_self y)) ∙ (ap (λ (w : ℕ). is_equal (order_n w y)) (sym z) ∙ (ap is_equal e ∙ f))))
 
-      go : (o : Order) → order_n x y ≡ o → is_equal o ≡ eqb x y
+      go : (o : Ordering) → order_n x y ≡ o → is_equal o ≡ eqb x y
       go Less e = sym (other Less e refl)
       go Equal e = sym (eq-eqb x y (order_n_same x y e))
       go Greater e = sym (other Greater e refl)
@@ -78,7 +78,7 @@ module _ (a b : List ℕ) (p q : ℕ) (h : p + hash_size ≤ length a) (i : q + 
       let la = length_part (p + 8) 8 a (omega arith) in
       let lb = length_part (q + 8) 8 b (omega arith) in
       let o : order_n (value (part p 8 a)) (value (part q 8 b)) ≡ Equal = rw e (order_n_self (value (part q 8 b))) in
-      ap is_equal (halves ∙ (ap (λ (x : Order). and_then x (order_bytes (part (p + 8) 8 a) (part (q + 8) 8 b))) o
+      ap is_equal (halves ∙ (ap (λ (x : Ordering). and_then x (order_bytes (part (p + 8) 8 a) (part (q + 8) 8 b))) o
       ∙ sym (order_value (part (p + 8) 8 a) (part (q + 8) 8 b) (la ∙ sym lb) u v)))
       ∙ equal_is (value (part (p + 8) 8 a)) (value (part (q + 8) 8 b))
 
@@ -88,7 +88,7 @@ other_rev : (a b : Revision) → (a ≡ b → ⊥) → same_rev a b ≡ false
 unfolding same_rev
 other_rev a b n = go (order_rev a b) refl
   where
-    go : (o : Order) → order_rev a b ≡ o → is_equal o ≡ false
+    go : (o : Ordering) → order_rev a b ≡ o → is_equal o ≡ false
     go Less e = refl
     go Equal e = absurd (n (rev_order.same a b e))
     go Greater e = refl
@@ -102,11 +102,16 @@ module _ (at : ℕ) (s : List ℕ) where
   unfolding node_at node_held meaning row_from
   number_there = refl
 
-  parent_there : (node_at at s).1.parent ≡ pick (not (eqb fields.flag 0)) (some (revision (pred fields.rev.number.0) (part (at + parent_hash_in) hash_size s))) none
+  parent_there : (node_at at s).1.parent ≡ pick (not (eqb fields.flag 0)) (Some (revision (pred fields.rev.number.0) (part (at + parent_hash_in) hash_size s))) None
   unfolding node_at node_held meaning row_from row_of
   parent_there =
-      ap (λ (h : List ℕ). pick (not (eqb fields.flag 0)) (some (revision (pred fields.rev.number.0) h)) none)
+      go (eqb fields.flag 0)
+      ∙ ap (λ (h : List ℕ). pick (not (eqb fields.flag 0)) (Some (revision (pred fields.rev.number.0) h)) None)
       (part-part parent_hash_in hash_size at row_size s (omega arith))
+    where
+      go : (b : Bool) → parent_of fields.rev (pick b None (Some fields.parent)) ≡ pick (not b) (Some (revision (pred fields.rev.number.0) fields.parent)) None
+      go true = refl
+      go false = refl
 
 module _ (at : ℕ) (s : List ℕ) (number : ℕ) (path : List ℕ) (k : ℕ) where
   abbrev row : Revision × Node
@@ -149,19 +154,19 @@ module _ (at : ℕ) (s : List ℕ) (number : ℕ) (path : List ℕ) (k : ℕ) wh
       unfolding parent_at
       none_given h =
           is_rev (by_hash ∙ hash)
-          ∙ ap (λ (b : Bool). parent_held (pick b (some (rev_at number path (k + 1))) none) row.1.parent) (le-ltb (k + 1) (count_of path) h)
+          ∙ ap (λ (b : Bool). parent_held (pick b (Some (rev_at number path (k + 1))) None) row.1.parent) (le-ltb (k + 1) (count_of path) h)
 
       module _ (h : k + 1 < count_of path) where
         abbrev held : Revision
         held = revision (pred (fields at s).rev.number.0) (part (at + parent_hash_in) hash_size s)
 
         by_flag : (b : Bool) → eqb (fields at s).flag 0 ≡ b
-            → holds row v o ≡ maybe false (λ q. same_rev q (rev_at number path (k + 1))) (pick (not b) (some held) none)
+            → holds row v o ≡ maybe false (λ q. same_rev q (rev_at number path (k + 1))) (pick (not b) (Some held) None)
         unfolding parent_at
         by_flag b e =
             is_rev (by_hash ∙ hash)
-            ∙ (ap (λ (x : Bool). parent_held (pick x (some (rev_at number path (k + 1))) none) row.1.parent) (lt-ltb (k + 1) (count_of path) h)
-            ∙ ap (maybe false (λ q. same_rev q (rev_at number path (k + 1)))) (parent_there at s ∙ ap (λ (x : Bool). pick (not x) (some held) none) e))
+            ∙ (ap (λ (x : Bool). parent_held (pick x (Some (rev_at number path (k + 1))) None) row.1.parent) (lt-ltb (k + 1) (count_of path) h)
+            ∙ ap (maybe false (λ q. same_rev q (rev_at number path (k + 1)))) (parent_there at s ∙ ap (λ (x : Bool). pick (not x) (Some held) None) e))
 
         pub none_held : (fields at s).flag ≡ 0 → holds row v o ≡ false
         none_held e = by_flag true (eq-eqb (fields at s).flag 0 e)
@@ -175,17 +180,17 @@ module _ (at : ℕ) (s : List ℕ) (number : ℕ) (path : List ℕ) (k : ℕ) wh
 -- ---- the plan stays
 
 parent_stays : (g h : Option Revision) → parent_held g h ≡ true → (differ same_rev h g ≡ false) × (lacks_parent g h ≡ false)
-parent_stays none none e = (refl, refl)
-parent_stays none (some q) e = (refl, refl)
-parent_stays (some p) none e = absurd (true≢false (sym e))
-parent_stays (some p) (some q) e = (ap not e, refl)
+parent_stays None None e = (refl, refl)
+parent_stays None (Some q) e = (refl, refl)
+parent_stays (Some p) None e = absurd (true≢false (sym e))
+parent_stays (Some p) (Some q) e = (ap not e, refl)
 
-no_content_lem : (h : Option Content) → differ agree h none ≡ false
-no_content_lem none = refl
-no_content_lem (some c) = refl
+no_content_lem : (h : Option Content) → differ agree h None ≡ false
+no_content_lem None = refl
+no_content_lem (Some c) = refl
 
-plan_stays : (t : Tree) (k : ℕ) (p : Plan) (g : Revision × Node) (n : Node) → find order_rev g.0 t ≡ some n
-    → parent_held g.1.parent n.parent ≡ true → g.1.content ≡ none → p ≡ planned t k p g
+plan_stays : (t : Tree) (k : ℕ) (p : Plan) (g : Revision × Node) (n : Node) → find order_rev g.0 t ≡ Some n
+    → parent_held g.1.parent n.parent ≡ true → g.1.content ≡ None → p ≡ planned t k p g
 plan_stays t k p g n f e c =
     let s = parent_stays g.1.parent n.parent e in
     let d : differ agree n.content g.1.content ≡ false = ap (differ agree n.content) c ∙ no_content_lem n.content in
@@ -238,9 +243,9 @@ module _ (b : Body) (s : List ℕ) (number : ℕ) (path : List ℕ) (k : ℕ) (y
       let o : order_rev v last.0 ≡ Equal = rw e (rev_order.self v) in
       let h = place_at i v t (at_last b v s able z o) in
       let r : get_or t i no_row ≡ last = tree_row b.base b.rows i s (omega arith) in
-      let f : find order_rev v t ≡ some last.1 = h.found ∙ ap (λ (x : Revision × Node). some x.1) r in
+      let f : find order_rev v t ≡ Some last.1 = h.found ∙ ap (λ (x : Revision × Node). Some x.1) r in
       record {
-        plan = plan_stays t k p (given_at number path c k) last.1 f (and_right (same_rev last.0 v) (parent_held (parent_at number path k) last.1.parent) both) (ap (λ (b : Bool). pick b (some c) none) later);
+        plan = plan_stays t k p (given_at number path c k) last.1 f (and_right (same_rev last.0 v) (parent_held (parent_at number path k) last.1.parent) both) (ap (λ (b : Bool). pick b (Some c) None) later);
         within = omega arith;
         lower = lower_at i v t no_row h.within h.is;
       }

@@ -1,7 +1,7 @@
 -- The changes of a write one after the other: documents by index, and how many revisions are held. Assumes nothing.
 use mathlib.Core.Path.{◌≡◌, refl, sym, ap, ◌∙◌}
 use mathlib.Core.List.{List, [], ◌∷◌}
-use mathlib.Core.Option.{Option, some}
+use Rattle.std.specs.Prelude.{Option, Some}
 use Prim.Native.Nat.{ℕ, zero, suc, ◌+◌, ◌≤◌, ◌<◌}
 use native.Mathlib.Nat.{not-suc-le-zero, le_of_suc-le-suc}
 use native.Mathlib.Omega.{arith}
@@ -99,7 +99,7 @@ module _ (r : Replica) (w : Write) (d : ℕ) (f : Tree → Tree) where
   added_held a e =
       let m : modify d (set_seq q) (modify d (set_tree f) r.documents) ≡ alter order_bytes w.id F r.documents =
       modify_twice d (set_seq q) (set_tree f) r.documents
-      ∙ (modify_here d both (λ x. (x.0, F (some x.1))) r.documents no_document
+      ∙ (modify_here d both (λ x. (x.0, F (Some x.1))) r.documents no_document
       (ap {B = Id × Document} (λ (t : Tree). ((get_or r.documents d no_document).0, record { seq = q; tree = t })) e)
       ∙ sym (a.altered F)) in
       ap {B = Replica} (λ (ds : Map Id Document). record { seq = q; documents = ds }) m

@@ -1,8 +1,10 @@
 -- A write of a good form, from its plan and verdict: what it answers and what is held after it. Assumes nothing.
 use mathlib.Core.Path.{◌≡◌, refl, sym, ap, ap₂, ◌∙◌, subst}
+use Rattle.rules.specs.declared.Outcome.{Outcome}
+use Rattle.std.specs.Prelude.{Result, Ok, Err}
 use mathlib.Core.Bool.{Bool, true, false}
 use mathlib.Core.List.{List, [], ◌∷◌}
-use mathlib.Core.Option.{Option, none, some}
+use Rattle.std.specs.Prelude.{Option, None, Some}
 use Prim.Native.Nat.{ℕ, suc, min, ◌/◌, ◌≤◌, ◌<◌}
 use native.Mathlib.Omega.{arith}
 use lib.Dec.{leb}
@@ -13,8 +15,6 @@ use Rattle.rules.specs.declared.Outcome.TheVariants.{Changed, Unchanged}
 use Rattle.rules.specs.declared.Refusal.{Refusal}
 use Rattle.rules.specs.declared.Revision.{Revision}
 use Rattle.rules.specs.declared.Seq.{Seq}
-use Rattle.rules.specs.declared.Written.{Written}
-use Rattle.rules.specs.declared.Written.TheVariants as written
 use Rattle.rules.specs.Bytes.{Bytes}
 use Rattle.rules.specs.Choice.{first_that, how_many}
 use Rattle.rules.specs.Map.{Map, Ascending}
@@ -24,8 +24,6 @@ use Rattle.rules.specs.Replica as rules
 use Rattle.rules.specs.Room.{hashes_most, hash_size, seq_most}
 use Rattle.rules.specs.Union.{IsWrite}
 use Rattle.rules.specs.Write.{Write, gives, add_all, next, added, is_none, is_new, count_new, form_refusals, write}
-use Rattle.tree.specs.declared.table.Found.{Found}
-use Rattle.tree.specs.declared.table.Found.TheVariants.{At, Gap}
 use Rattle.tree.specs.Table.{tree_in, insert_at}
 use Rattle.tree.specs.declared.table.Body.{Body}
 use Rattle.store.specs.Storage.{replica_of, Laid, IsStored}
@@ -36,8 +34,6 @@ use Rattle.store.proofs.PlaceLaws.{IsAt, IsGap, id_found, id_gap}
 use Rattle.store.proofs.TableLaws.{length_insert}
 use Rattle.store.proofs.BodyLaws.{is_body, looked, place_body}
 use Rattle.union.proofs.Demand3.{write_keeps}
-use Rattle.writes.specs.declared.form.Verdict.{Verdict}
-use Rattle.writes.specs.declared.form.Verdict.TheVariants as verdict
 use Rattle.writes.specs.declared.plan.Plan.{Plan}
 use Rattle.writes.specs.Apply.{CanApply}
 use Rattle.writes.specs.Judge.{is_absent, judged, Does, CanWrite, Wrote}
@@ -56,13 +52,13 @@ use Rattle.writes.proofs.StateLaws.{at_insert, held_blank, added_held, added_new
 
 -- ---- verdicts
 
-pub clear_none : (o : Option Refusal) → verdict_of o ≡ verdict.Clear → o ≡ none
-clear_none none e = refl
-clear_none (some n) e = let z : ◌≡◌ {A = ℕ} 0 1 = cc in absurd (omega arith)
+pub clear_none : (o : Option Refusal) → verdict_of o ≡ Ok tt → o ≡ None
+clear_none None e = refl
+clear_none (Some n) e = let z : ◌≡◌ {A = ℕ} 0 1 = cc in absurd (omega arith)
 
-pub refused_some : (o : Option Refusal) (n : Refusal) → verdict_of o ≡ verdict.Refused n → o ≡ some n
-refused_some none n e = let z : ◌≡◌ {A = ℕ} 0 1 = cc in absurd (omega arith)
-refused_some (some m) n e = let q : m ≡ n = cc in ap {B = Option Refusal} some q
+pub refused_some : (o : Option Refusal) (n : Refusal) → verdict_of o ≡ Err n → o ≡ Some n
+refused_some None n e = let z : ◌≡◌ {A = ℕ} 0 1 = cc in absurd (omega arith)
+refused_some (Some m) n e = let q : m ≡ n = cc in ap {B = Option Refusal} Some q
 
 -- ---- what is held
 
@@ -73,25 +69,25 @@ holds_itself s l = record { bytes = l.same; laid = l; means = refl }
 holds_same : (r r' : Replica) (s : List ℕ) → r ≡ r' → Holds r s → Holds r' s
 holds_same r r' s e h = subst (λ (x : Replica). Holds x s) e h
 
-does : (s : List ℕ) (w : Write) (r : Written) (x : Replica) (s' : List ℕ) → write (replica_of s) w ≡ (r, x) → Holds x s' → Does s w r s'
+does : (s : List ℕ) (w : Write) (r : Result Outcome Refusal) (x : Replica) (s' : List ℕ) → write (replica_of s) w ≡ (r, x) → Holds x s' → Does s w r s'
 does s w r x s' e h = record {
-  answer = ap (λ (o : Written × Replica). o.0) (sym e);
-  holds = holds_same x (write (replica_of s) w).1 s' (ap (λ (o : Written × Replica). o.1) (sym e)) h;
+  answer = ap (λ (o : Result Outcome Refusal × Replica). o.0) (sym e);
+  holds = holds_same x (write (replica_of s) w).1 s' (ap (λ (o : Result Outcome Refusal × Replica). o.1) (sym e)) h;
 }
 
 -- a form that is refused
-does_formless : (s : List ℕ) (w : Write) (n : Refusal) → Laid s → first_that (form_refusals w) ≡ some n → Does s w (written.Refused n) s
-does_formless s w n l e = does s w (written.Refused n) (replica_of s) s (write_formless (replica_of s) w n e) (holds_itself s l)
+does_formless : (s : List ℕ) (w : Write) (n : Refusal) → Laid s → first_that (form_refusals w) ≡ Some n → Does s w (Err n) s
+does_formless s w n l e = does s w (Err n) (replica_of s) s (write_formless (replica_of s) w n e) (holds_itself s l)
 
 -- a write of a good form, with its plan and the verdict on it
-pub record Judged (s : List ℕ) (w : Write) (absent : Bool) (p : Plan) (v : Verdict) : Type 0 where
+pub record Judged (s : List ℕ) (w : Write) (absent : Bool) (p : Plan) (v : Result (Unit {0}) Refusal) : Type 0 where
   pub laid : Laid s
-  pub form : first_that (form_refusals w) ≡ none
+  pub form : first_that (form_refusals w) ≡ None
   pub absence : is_none (document_of (replica_of s) w.id) ≡ absent
   pub plan : p ≡ plan_of (tree_of (replica_of s) w.id) (gives w)
   pub verdict : v ≡ verdict_of (first_that (judged (replica_of s) absent p))
 
-module _ {s : List ℕ} {w : Write} {absent : Bool} {p : Plan} {v : Verdict} (j : Judged s w absent p v) where
+module _ {s : List ℕ} {w : Write} {absent : Bool} {p : Plan} {v : Result (Unit {0}) Refusal} (j : Judged s w absent p v) where
   abbrev r : Replica
   r = replica_of s
 
@@ -104,27 +100,27 @@ module _ {s : List ℕ} {w : Write} {absent : Bool} {p : Plan} {v : Verdict} (j 
   reach_is : p.reach ≡ whole_plan.reach
   reach_is = ap (λ (x : Plan). x.reach) j.plan
 
-  pub does_refused : (n : Refusal) → v ≡ verdict.Refused n → Does s w (written.Refused n) s
+  pub does_refused : (n : Refusal) → v ≡ Err n → Does s w (Err n) s
   does_refused n e =
-      does s w (written.Refused n) r s
+      does s w (Err n) r s
       (write_refused r w j.form n (sym tests ∙ refused_some (first_that (judged r absent p)) n (sym j.verdict ∙ e)))
       (holds_itself s j.laid)
 
-  clear_tests : v ≡ verdict.Clear → first_that (judged r absent p) ≡ none
+  clear_tests : v ≡ Ok tt → first_that (judged r absent p) ≡ None
   clear_tests e = clear_none (first_that (judged r absent p)) (sym j.verdict ∙ e)
 
-  pub clear_facts : v ≡ verdict.Clear → Clear r absent p
+  pub clear_facts : v ≡ Ok tt → Clear r absent p
   clear_facts e = clear_says r absent p (clear_tests e)
 
-  pub does_same : v ≡ verdict.Clear → p.reach ≡ 0 → Does s w (written.Accepted Unchanged) s
+  pub does_same : v ≡ Ok tt → p.reach ≡ 0 → Does s w (Ok Unchanged) s
   does_same e z =
-      does s w (written.Accepted Unchanged) r s
+      does s w (Ok Unchanged) r s
       (write_same r w j.form (sym tests ∙ clear_tests e) (eq-eqb whole_plan.reach 0 (sym reach_is ∙ z)))
       (holds_itself s j.laid)
 
-  pub does_changed : v ≡ verdict.Clear → (p.reach ≡ 0 → ⊥) → (s' : List ℕ) → Holds (added r w) s' → Does s w (written.Accepted Changed) s'
+  pub does_changed : v ≡ Ok tt → (p.reach ≡ 0 → ⊥) → (s' : List ℕ) → Holds (added r w) s' → Does s w (Ok Changed) s'
   does_changed e z s' h =
-      does s w (written.Accepted Changed) (added r w) s'
+      does s w (Ok Changed) (added r w) s'
       (write_changed r w j.form (sym tests ∙ clear_tests e) (ne_eqb whole_plan.reach 0 (λ q. z (reach_is ∙ q)))) h
 
 -- ---- the tree that is written to
@@ -188,23 +184,23 @@ seq_left r absent p i k z = below r.seq.0 seq_most i.seq_at_most (k.seq z)
 -- ---- the document that was looked for
 
 module _ {s : List ℕ} (i : Id) (is : IsStored s) where
-  pub place_looked : {f : Found} → place_of_id 0 i (documents_of s) ≡ f → Looked s f
+  pub place_looked : {f : Result ℕ ℕ} → place_of_id 0 i (documents_of s) ≡ f → Looked s f
   place_looked e = looked i (stored_laid s is) e
 
-  pub place_shows : {f : Found} {b : Body} → place_of_id 0 i (documents_of s) ≡ f → b ≡ body_at (documents_of s) f → Shows s b (tree_of (replica_of s) i)
+  pub place_shows : {f : Result ℕ ℕ} {b : Body} → place_of_id 0 i (documents_of s) ≡ f → b ≡ body_at (documents_of s) f → Shows s b (tree_of (replica_of s) i)
   place_shows e h = (place_body i (stored_laid s is) e h).shows
 
-  absence : {f : Found} → place_of_id 0 i (documents_of s) ≡ f → is_none (document_of (replica_of s) i) ≡ is_absent f
+  absence : {f : Result ℕ ℕ} → place_of_id 0 i (documents_of s) ≡ f → is_none (document_of (replica_of s) i) ≡ is_absent f
   unfolding document_of
   absence {f} = go f
     where
-      go : (g : Found) → place_of_id 0 i (documents_of s) ≡ g → is_none (document_of (replica_of s) i) ≡ is_absent g
-      go (At d) e = ap is_none (id_found d i (documents_of s) e).found
-      go (Gap d) e = ap is_none (id_gap d i (documents_of s) e).found
+      go : (g : Result ℕ ℕ) → place_of_id 0 i (documents_of s) ≡ g → is_none (document_of (replica_of s) i) ≡ is_absent g
+      go (Ok d) e = ap is_none (id_found d i (documents_of s) e).found
+      go (Err d) e = ap is_none (id_gap d i (documents_of s) e).found
 
 -- ---- its plan and the verdict on it
 
-module _ {s : List ℕ} {f : Found} {w : Write} (can : CanWrite s f w) where
+module _ {s : List ℕ} {f : Result ℕ ℕ} {w : Write} (can : CanWrite s f w) where
   abbrev t : Tree
   t = tree_of (replica_of s) w.id
 
@@ -219,8 +215,8 @@ module _ {s : List ℕ} {f : Found} {w : Write} (can : CanWrite s f w) where
   sound = go (document_of (replica_of s) w.id) refl
     where
       go : (o : Option Document) → document_of (replica_of s) w.id ≡ o → Sound (rules.tree_in o)
-      go none e = sound_none
-      go (some d) e = sound_tree d.tree (can.stored.replica.documents w.id d e).tree
+      go None e = sound_none
+      go (Some d) e = sound_tree d.tree (can.stored.replica.documents w.id d e).tree
 
   module _ {b : Body} (body : b ≡ body_at (documents_of s) f) where
     pub can_plan : CanPlan s b w.number.0 w.path
@@ -239,13 +235,13 @@ module _ {s : List ℕ} {f : Found} {w : Write} (can : CanWrite s f w) where
       pub can_judge : Laid s × (p.revisions ≤ hashes_most)
       can_judge = (laid, few_revisions t w p good plan_is)
 
-      pub is_judged : {v : Verdict} → v ≡ verdict_of (first_that (judged (replica_of s) (is_absent f) p)) → Judged s w (is_absent f) p v
+      pub is_judged : {v : Result (Unit {0}) Refusal} → v ≡ verdict_of (first_that (judged (replica_of s) (is_absent f) p)) → Judged s w (is_absent f) p v
       is_judged e = record { laid = laid; form = can.form; absence = absence w.id can.stored can.place; plan = plan_is; verdict = e }
 
 -- ---- what is applied
 
 -- a write that no rule refuses and that adds something, with the m newest that are enough
-pub record Ready (s : List ℕ) (f : Found) (w : Write) (b : Body) (p : Plan) (m : ℕ) : Type 0 where
+pub record Ready (s : List ℕ) (f : Result ℕ ℕ) (w : Write) (b : Body) (p : Plan) (m : ℕ) : Type 0 where
   pub can : CanWrite s f w
   pub body : b ≡ body_at (documents_of s) f
   pub plan : p ≡ plan_of (tree_in b s) (gives_of w.number w.path w.content)
@@ -253,7 +249,7 @@ pub record Ready (s : List ℕ) (f : Found) (w : Write) (b : Body) (p : Plan) (m
   pub adds : p.reach ≡ 0 → ⊥
   pub least : m ≡ min p.reach (length w.path / hash_size)
 
-module _ {s : List ℕ} {f : Found} {w : Write} {b : Body} {p : Plan} {m : ℕ} (ready : Ready s f w b p m) where
+module _ {s : List ℕ} {f : Result ℕ ℕ} {w : Write} {b : Body} {p : Plan} {m : ℕ} (ready : Ready s f w b p m) where
   abbrev tree : Tree
   tree = tree_of (replica_of s) w.id
 
@@ -300,8 +296,8 @@ module _ {s : List ℕ} {f : Found} {w : Write} {b : Body} {p : Plan} {m : ℕ} 
         seq = omega arith;
       }
 
-  module _ {d : ℕ} (here : f ≡ At d) where
-    place : place_of_id 0 w.id (documents_of s) ≡ At d
+  module _ {d : ℕ} (here : f ≡ Ok d) where
+    place : place_of_id 0 w.id (documents_of s) ≡ Ok d
     place = ready.can.place ∙ here
 
     at : IsAt d w.id (documents_of s)
@@ -320,7 +316,7 @@ module _ {s : List ℕ} {f : Found} {w : Write} {b : Body} {p : Plan} {m : ℕ} 
         holds_same _ (added (replica_of s) w) s'
         (added_held (replica_of s) w d newest at (ap newest (sym tree_is) ∙ enough)) h
 
-  module _ {d : ℕ} (here : f ≡ Gap d) where
+  module _ {d : ℕ} (here : f ≡ Err d) where
     gap : IsGap d w.id (documents_of s)
     gap = id_gap d w.id (documents_of s) (ready.can.place ∙ here)
 
@@ -368,7 +364,7 @@ bytes_all [] h = tt
 bytes_all (x ∷ s) h = (h 0, bytes_all s (λ i. h (suc i)))
 
 -- what is left is a replica
-pub wrote : {s s' : List ℕ} {w : Write} {r : Written} → IsStored s → IsWrite w → Does s w r s' → Wrote s w r s'
+pub wrote : {s s' : List ℕ} {w : Write} {r : Result Outcome Refusal} → IsStored s → IsWrite w → Does s w r s' → Wrote s w r s'
 wrote {s} {s'} {w} i q d =
     record {
       answer = d.answer;
@@ -381,7 +377,7 @@ wrote {s} {s'} {w} i q d =
     }
 
 -- a form that is refused leaves what was there
-pub wrote_formless : {s : List ℕ} {w : Write} {n : Refusal} → IsStored s → first_that (form_refusals w) ≡ some n → Wrote s w (written.Refused n) s
+pub wrote_formless : {s : List ℕ} {w : Write} {n : Refusal} → IsStored s → first_that (form_refusals w) ≡ Some n → Wrote s w (Err n) s
 wrote_formless {s} {w} {n} i e =
     let d = does_formless s w n (stored_laid s i) e in
     record { answer = d.answer; left = d.holds.bytes; means = d.holds.means; is = i }

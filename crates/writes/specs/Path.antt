@@ -1,6 +1,6 @@
 -- What a path gives, hash by hash.
 use Rattle.std.specs.Prelude.{◌≡◌, List, [], ◌∷◌, ℕ, ◌+◌, ◌-◌, ◌*◌, ◌/◌, ◌≤◌, ◌<◌, eqb, ltb, length}
-use Rattle.std.proofs.Math.Option.{Option, none, some}
+use Rattle.std.specs.Prelude.{Option, None, Some}
 use Rattle.rules.specs.declared.Content.{Content}
 use Rattle.rules.specs.declared.Revision.{Revision}
 use Rattle.rules.specs.declared.RevNumber.{RevNumber}
@@ -30,11 +30,11 @@ rev_at number path k = revision (number - k) (hash_at path k)
 
 -- "Each hash is the parent of the one before it": the oldest is given none
 unfoldable pub parent_at : ℕ → List ℕ → ℕ → Option Revision
-parent_at number path k = pick (ltb (k + 1) (count_of path)) (some (rev_at number path (k + 1))) none
+parent_at number path k = pick (ltb (k + 1) (count_of path)) (Some (rev_at number path (k + 1))) None
 
 -- only the newest is given a content
 abbrev pub content_at : Content → ℕ → Option Content
-content_at c k = pick (eqb k 0) (some c) none
+content_at c k = pick (eqb k 0) (Some c) None
 
 -- what a path gives for its k-th hash
 unfoldable pub given_at : ℕ → List ℕ → Content → ℕ → Revision × Node

@@ -1,9 +1,9 @@
 -- What a pass over a path finds in a document's tree.
 use Rattle.std.specs.Prelude.{◌≡◌, Bool, true, false, not, ◌&&◌, ◌||◌, List, [], ◌∷◌, ℕ, ◌+◌, ◌-◌, ◌≤◌, ◌<◌, eqb, drop}
-use Rattle.std.proofs.Math.Option.{Option, none, some}
+use Rattle.std.specs.declared.cmp.Ordering.TheVariants.{Less}
+use Rattle.std.specs.Prelude.{Option, None, Some}
 use Rattle.rules.specs.declared.Revision.{Revision}
 use Rattle.rules.specs.Choice.{pick, maybe}
-use Rattle.rules.specs.declared.Order.TheVariants.{Less}
 use Rattle.rules.specs.Map.{Below}
 use Rattle.rules.specs.Order.{order_rev, same_rev}
 use Rattle.rules.specs.Replica.{Node, Tree}
@@ -40,8 +40,8 @@ plan_of t gs = plan_from t 0 no_plan gs
 
 -- the parent given, if one is, is the one held
 abbrev pub parent_held : Option Revision → Option Revision → Bool
-parent_held none held = true
-parent_held (some p) held = maybe false (λ q. same_rev q p) held
+parent_held None held = true
+parent_held (Some p) held = maybe false (λ q. same_rev q p) held
 
 -- what is held is the revision, with the parent given for it
 unfoldable pub holds : Revision × Node → Revision → Option Revision → Bool

@@ -28,9 +28,7 @@ pub(crate) fn apply(
 {
     let q = update_sequence(b);
     let mut place = body;
-    let mut k = m;
-    while 0 < k {
-        k -= 1;
+    for k in (0..m).rev() {
         place = learn_row(b, d, place, given(path, number, content, k));
     }
     set_sequences(b, d, Seq(q.0 + 1));

@@ -1,30 +1,12 @@
 // The refusals of a write's form, 1 to 3.
 ghost use Rattle.std.specs.Prelude.{◌≡◌};
 ghost use Rattle.rules.specs.Choice.{first_that};
-ghost use Rattle.rules.specs.Replica.{IsContent};
 ghost use Rattle.rules.specs.Write.{Write, bad_path, low_number, form_refusals};
 ghost use Rattle.writes.specs.Path.{write_of};
 ghost use Rattle.writes.specs.Verdict.{verdict_of};
 
 use rules::{Content, HASH, PATH_HASHES, Refusal, RevNumber};
 use store::read::bad_id;
-
-// The same content: its label is below 2^64, as every u64 is, and here that is said of it.
-pub(crate) fn in_range(content: Content) -> Content
-    ensures { (result ≡ content) × IsContent content }
-{
-    match content {
-        Content::Live(n) => Content::Live(n),
-        Content::Deleted => Content::Deleted,
-    }
-}
-
-// A refusal, or none.
-#[derive(Clone, Copy)]
-pub enum Verdict {
-    Clear,
-    Refused(Refusal),
-}
 
 // 2: bytes that are not a multiple of 16, or not 1 to 512 hashes.
 fn bad_path(path: &[u8]) -> bool
@@ -48,17 +30,17 @@ fn low_number(number: RevNumber, path: &[u8]) -> bool
 }
 
 // 1 to 3, in that order; they don't depend on the content.
-pub(crate) fn form(id: &[u8], number: RevNumber, path: &[u8]) -> Verdict
+pub(crate) fn form(id: &[u8], number: RevNumber, path: &[u8]) -> Result<(), Refusal>
     ensures { (c : Content) → result ≡ verdict_of (first_that (form_refusals (write_of id.now number path.now c))) }
 {
     if bad_id(id) {
-        return Verdict::Refused(Refusal::BadId);
+        return Err(Refusal::BadId);
     }
     if bad_path(path) {
-        return Verdict::Refused(Refusal::BadPath);
+        return Err(Refusal::BadPath);
     }
     if low_number(number, path) {
-        return Verdict::Refused(Refusal::LowNumber);
+        return Err(Refusal::LowNumber);
     }
-    Verdict::Clear
+    Ok(())
 }

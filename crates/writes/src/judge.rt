@@ -8,21 +8,16 @@ ghost use Rattle.store.specs.Documents.{documents_of};
 ghost use Rattle.writes.specs.Judge.{is_absent, judged};
 ghost use Rattle.writes.specs.Verdict.{verdict_of};
 
-use crate::form::Verdict;
 use crate::plan::Plan;
 use rules::{DOCUMENTS, REVISIONS, Refusal, SEQ_MOST};
 use store::read::{documents_held, revisions_held, update_sequence};
-use tree::table::Found;
 
 // 6: the document is absent and 32 documents are held.
-fn documents_full(b: &[u8], found: Found) -> bool
+fn documents_full(b: &[u8], found: Result<usize, usize>) -> bool
     requires { Laid b.now }
     ensures { result ≡ (is_absent found && leb documents_most (length (documents_of b.now))) }
 {
-    match found {
-        Found::At(_) => false,
-        Found::Gap(_) => DOCUMENTS <= documents_held(b),
-    }
+    found.is_err() && DOCUMENTS <= documents_held(b)
 }
 
 // 7: revisions held plus new ones exceed 512.
@@ -47,24 +42,24 @@ fn sequence_spent(b: &[u8], reach: usize) -> bool
 }
 
 // 4 to 8, in that order.
-pub(crate) fn judge(b: &[u8], found: Found, p: Plan) -> Verdict
+pub(crate) fn judge(b: &[u8], found: Result<usize, usize>, p: Plan) -> Result<(), Refusal>
     requires { Laid b.now × (p.revisions ≤ hashes_most) }
     ensures { result ≡ verdict_of (first_that (judged (replica_of b.now) (is_absent found) p)) }
 {
     if p.crossed {
-        return Verdict::Refused(Refusal::OtherParent);
+        return Err(Refusal::OtherParent);
     }
     if p.other {
-        return Verdict::Refused(Refusal::OtherContent);
+        return Err(Refusal::OtherContent);
     }
     if documents_full(b, found) {
-        return Verdict::Refused(Refusal::DocumentsFull);
+        return Err(Refusal::DocumentsFull);
     }
     if revisions_full(b, p.revisions) {
-        return Verdict::Refused(Refusal::RevisionsFull);
+        return Err(Refusal::RevisionsFull);
     }
     if sequence_spent(b, p.reach) {
-        return Verdict::Refused(Refusal::SequenceSpent);
+        return Err(Refusal::SequenceSpent);
     }
-    Verdict::Clear
+    Ok(())
 }

@@ -8,9 +8,9 @@ ghost use Rattle.store.specs.Storage.{IsStored};
 ghost use Rattle.writes.specs.Judge.{Wrote};
 ghost use Rattle.writes.specs.Path.{write_of};
 
-use crate::form::{Verdict, form};
+use crate::form::form;
 use crate::settle::write_to;
-use rules::{Content, RevNumber, Written};
+use rules::{Content, Outcome, Refusal, RevNumber};
 use store::read::find_document;
 
 mod apply;
@@ -21,13 +21,17 @@ mod plan;
 pub mod settle;
 
 // The path write: any id, any number, any bytes as a path, any content.
-pub fn write(b: &mut [u8], id: &[u8], number: RevNumber, path: &[u8], content: Content) -> Written
+pub fn write(
+    b: &mut [u8],
+    id: &[u8],
+    number: RevNumber,
+    path: &[u8],
+    content: Content,
+) -> Result<Outcome, Refusal>
     requires { IsStored b.old }
     ensures { Wrote b.old (write_of id.now number path.now content) result b.new }
 {
-    if let Verdict::Refused(n) = form(id, number, path) {
-        return Written::Refused(n);
-    }
+    form(id, number, path)?;
     let found = find_document(b, id);
     write_to(b, found, id, number, path, content)
 }

@@ -1,6 +1,6 @@
 // The plan of a write: a read-only pass over its path.
 ghost use Rattle.std.specs.Prelude.{◌≡◌, ◌||◌, ℕ, ◌+◌, ◌<◌, ◌≤◌, length};
-ghost use Rattle.std.proofs.Math.Option.{Option, none, some};
+ghost use Rattle.std.specs.Prelude.{Option, None, Some};
 ghost use Rattle.rules.specs.Bytes.{part};
 ghost use Rattle.rules.specs.Choice.{pick};
 ghost use Rattle.rules.specs.Map.{find as has};
@@ -9,7 +9,7 @@ ghost use Rattle.rules.specs.Room.{hash_size, hashes_most};
 ghost use Rattle.rules.specs.Order.{is_equal, order_bytes, order_rev, same_rev};
 ghost use Rattle.rules.specs.Replica.{Tree};
 ghost use Rattle.rules.specs.Write.{lacks_parent, agree, differ};
-ghost use Rattle.tree.specs.Rows.{content_of, meaning, node_at};
+ghost use Rattle.tree.specs.Rows.{meaning, node_at};
 ghost use Rattle.tree.specs.Table.{tree_in, Within};
 ghost use Rattle.writes.specs.Path.{rev_at, parent_at, gives_of, InPath};
 ghost use Rattle.writes.specs.Plan.{holds, settled, no_plan, planned, plan_of, Counted, CanStep, Stepped, CanPlan};
@@ -18,8 +18,8 @@ use crate::path::given;
 use layout::{HASH_IN, PARENT_HASH_IN, ROW, row};
 use octets::number::get8;
 use rules::{Content, HASH, RevNumber};
-use tree::row::{Kind, Row};
-use tree::table::{Body, Found, find, row_at};
+use tree::row::Row;
+use tree::table::{Body, find, row_at};
 
 // What a path would do to a document: whether a revision of it has another parent (4) or another
 // content (5), how many revisions and parents it would add, and how many of the newest it can alter.
@@ -39,32 +39,25 @@ struct Pass {
     top: usize,
 }
 
-// Whether two contents agree.
+// Whether two contents agree: by cases, the form that the rules name for a content.
 fn same_content(a: Content, b: Content) -> bool
     ensures { result ≡ agree a b }
 {
-    match a {
-        Content::Live(x) => match b {
-            Content::Live(y) => x == y,
-            Content::Deleted => false,
-        },
-        Content::Deleted => match b {
-            Content::Live(_) => false,
-            Content::Deleted => true,
-        },
+    match (a, b) {
+        (Content::Live(x), Content::Live(y)) => x == y,
+        (Content::Deleted, Content::Deleted) => true,
+        (Content::Live(_), Content::Deleted) => false,
+        (Content::Deleted, Content::Live(_)) => false,
     }
 }
 
 // 5, of a revision that is held: it is a leaf with another content.
-fn other_content(held: Kind, given: Kind) -> bool
-    ensures { result ≡ differ agree (content_of held) (content_of given) }
+fn other_content(held: Option<Content>, given: Option<Content>) -> bool
+    ensures { result ≡ differ agree held given }
 {
-    match held {
-        Kind::Inner => false,
-        Kind::Leaf(a) => match given {
-            Kind::Inner => false,
-            Kind::Leaf(b) => !same_content(a, b),
-        },
+    match (held, given) {
+        (Some(a), Some(b)) => !same_content(a, b),
+        _ => false,
     }
 }
 
@@ -88,14 +81,12 @@ fn other_parent(held: Row, given: Row) -> bool
     requires { held.rev ≡ given.rev }
     ensures { result ≡ differ same_rev (meaning held).1.parent (meaning given).1.parent }
 {
-    if !held.known {
+    let Some(a) = held.parent else {
         return false;
-    }
-    if !given.known {
+    };
+    let Some(b) = given.parent else {
         return false;
-    }
-    let a = held.parent;
-    let b = given.parent;
+    };
     !same_hashes(&a, 0, &b, 0)
 }
 
@@ -103,22 +94,10 @@ fn other_parent(held: Row, given: Row) -> bool
 fn lacks_parent(held: Row, given: Row) -> bool
     ensures { result ≡ lacks_parent (meaning given).1.parent (meaning held).1.parent }
 {
-    if held.known {
+    if held.parent.is_some() {
         return false;
     }
-    given.known
-}
-
-fn either(a: bool, b: bool) -> bool
-    ensures { result ≡ (a || b) }
-{
-    if a { true } else { b }
-}
-
-fn one_if(a: bool) -> usize
-    ensures { (result ≡ pick a 1 0) × (result ≤ 1) }
-{
-    if a { 1 } else { 0 }
+    given.parent.is_some()
 }
 
 // An addition at k alters it and its parent.
@@ -126,22 +105,19 @@ fn reach(added: bool, k: usize, before: usize) -> usize
     requires { k < hashes_most }
     ensures { result ≡ pick added (k + 2) before }
 {
-    if added {
-        return k + 2;
-    }
-    before
+    if added { k + 2 } else { before }
 }
 
 // The plan with the k-th revision, which is not held.
 fn with_new(p: Plan, given: Row, k: usize) -> Plan
     requires { Counted p k }
-    ensures { (t : Tree) → has order_rev given.rev t ≡ none → result ≡ planned t k p (meaning given) }
+    ensures { (t : Tree) → has order_rev given.rev t ≡ None → result ≡ planned t k p (meaning given) }
 {
     Plan {
         crossed: p.crossed,
         other: p.other,
         revisions: p.revisions + 1,
-        parents: p.parents + one_if(given.known),
+        parents: p.parents + usize::from(given.parent.is_some()),
         reach: k + 2,
     }
 }
@@ -149,16 +125,14 @@ fn with_new(p: Plan, given: Row, k: usize) -> Plan
 // The plan with the k-th revision, which is held.
 fn with_held(p: Plan, held: Row, given: Row, k: usize) -> Plan
     requires { Counted p k × (held.rev ≡ given.rev) }
-    ensures { (t : Tree) → has order_rev given.rev t ≡ some (meaning held).1 → result ≡ planned t k p (meaning given) }
+    ensures { (t : Tree) → has order_rev given.rev t ≡ Some (meaning held).1 → result ≡ planned t k p (meaning given) }
 {
-    let a = held.kind;
-    let b = given.kind;
     let lacks = lacks_parent(held, given);
     Plan {
-        crossed: either(p.crossed, other_parent(held, given)),
-        other: either(p.other, other_content(a, b)),
+        crossed: p.crossed | other_parent(held, given),
+        other: p.other | other_content(held.content, given.content),
         revisions: p.revisions,
-        parents: p.parents + one_if(lacks),
+        parents: p.parents + usize::from(lacks),
         reach: reach(lacks, k, p.reach),
     }
 }
@@ -171,12 +145,12 @@ fn step(b: &[u8], body: Body, given: Row, k: usize, p: Plan) -> Pass
 {
     let rev = given.rev;
     match find(b, body, rev) {
-        Found::At(i) => {
+        Ok(i) => {
             let held = row_at(b, body, i);
             let plan = with_held(p, held, given, k);
             Pass { plan, top: i }
         }
-        Found::Gap(i) => {
+        Err(i) => {
             let plan = with_new(p, given, k);
             Pass { plan, top: i }
         }
@@ -243,15 +217,12 @@ pub(crate) fn plan_path(
     };
     let base = body.base;
     let mut top = body.rows;
-    let mut k = 0;
-    while k < count {
-        let at = k;
-        k += 1;
+    for k in 0..count {
         let left = Body { base, rows: top };
-        if is_settled(b, left, number, path, at) {
+        if is_settled(b, left, number, path, k) {
             top -= 1;
         } else {
-            let s = step(b, left, given(path, number, content, at), at, p);
+            let s = step(b, left, given(path, number, content, k), k, p);
             p = s.plan;
             top = s.top;
         }

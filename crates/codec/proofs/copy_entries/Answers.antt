@@ -11,7 +11,7 @@ use Rattle.codec.proofs.MoveLaws.{moved_on, moved_none, count_at}
 use Rattle.codec.proofs.copy_entries.Goals as goal
 
 pub loop-i-init : goal.loop-i-init
-loop-i-init c = (omega arith, refl, omega arith, rw sub-zero)
+loop-i-init c = (refl, omega arith, rw sub-zero)
 
 pub overflow_mul-place : goal.overflow_mul-place
 overflow_mul-place c =
@@ -23,7 +23,7 @@ pub overflow_add-place : goal.overflow_add-place
 overflow_add-place c =
     let a = c.args in
     let m : a.step * c.rows.result ≤ row_size * c.rows.result = mul-le-mul_right c.rows.result c.requires.short in
-    record { fits = omega (arith, c.loop-i.invariant.2, c.rows.ensures.small) }
+    record { fits = omega (arith, c.loop-i.invariant.1, c.rows.ensures.small) }
 
 pub loop-i-preserved : goal.loop-i-preserved
 loop-i-preserved c =
@@ -33,10 +33,9 @@ loop-i-preserved c =
     let m : a.step * r ≤ row_size * r = mul-le-mul_right r c.requires.short in
     let room : entry_place i + (a.d - i) * entry_size ≤ length c.loop-i.dst = omega arith in
     let there : entry_place i + (a.d - i) * entry_size ≤ length a.src.now = omega arith in (
-      omega arith,
       search rules,
-      omega (arith, c.loop-i.invariant.2, c.rows.ensures.small),
-      c.loop-i.invariant.3
+      omega (arith, c.loop-i.invariant.1, c.rows.ensures.small),
+      c.loop-i.invariant.2
           ∙ moved_on c.loop-i.dst a.src.now _ _ a.step c.loop-i.place (a.d - i) (a.d - (i + 1)) (entry_place i) (entry_place i + place_in) (entry_place (i + 1)) r
           (omega arith) refl (omega arith) (count_at (entry_place i) a.src.now c.rows.ensures.is) room there
           c.copy_in.ensures c.put_place.ensures.is,
@@ -46,4 +45,4 @@ pub returns : goal.returns
 returns c =
     let a = c.args in
     let l = c.loop-i in
-    sym (l.invariant.3 ∙ moved_none l.dst a.src.now a.step l.place (a.d - l.i) (entry_place l.i) (omega arith))
+    sym (l.invariant.2 ∙ moved_none l.dst a.src.now a.step l.place (a.d - l.i) (entry_place l.i) (omega arith))

@@ -9,10 +9,6 @@ use Rattle.codec.specs.Codec.{moved}
 use Rattle.codec.proofs.copy_entries.Given as goal
 
 abbrev pub invariant-loop-i : goal.invariant-loop-i
-invariant-loop-i l = (l.i ≤ l.d)
-    × (length l.dst ≡ length l.initial.dst)
+invariant-loop-i l = (length l.dst ≡ length l.initial.dst)
     × (l.place ≤ l.first + row_size * two_bytes * l.i)
     × (splice l.initial.dst head_size (moved l.step l.first l.d head_size l.src) ≡ splice l.dst (entry_place l.i) (moved l.step l.place (l.d - l.i) (entry_place l.i) l.src))
-
-abbrev pub decreases-loop-i : goal.decreases-loop-i
-decreases-loop-i l = l.d - l.i

@@ -1,5 +1,5 @@
 -- `holds_replica` meets its contract. Assumes nothing.
-use mathlib.Core.Path.{refl, sym, ap, ◌∙◌, ◌≡◌}
+use mathlib.Core.Path.{refl, sym, ◌∙◌, ◌≡◌}
 use Prim.Native.Nat.{◌+◌, ◌-◌, ◌*◌}
 use native.Mathlib.Omega.{arith}
 use lib.ListN.{length-take, length-drop}
@@ -7,10 +7,9 @@ use borrow.Author.Rules.{rules}
 use Rattle.rules.specs.Layout.{row_size}
 use Rattle.rules.specs.Bytes.{part}
 use Rattle.store.specs.Storage.{rows_place}
-use Rattle.faults.specs.Judged.{judged}
 use Rattle.codec.specs.Codec.{laid_out}
 use Rattle.codec.proofs.TakeLaws.{bytes_all}
-use Rattle.codec.proofs.TellLaws.{anew, tells_other, tells_fine, tells_fault}
+use Rattle.codec.proofs.TellLaws.{anew, tells_other, tells_said}
 use Rattle.codec.proofs.holds_replica.Goals as goal
 
 pub lay_out-requires : goal.lay_out-requires
@@ -25,16 +24,11 @@ returns-then-not-same_bytes c =
 pub slice_bounds-fault-end : goal.slice_bounds-fault-end
 slice_bounds-fault-end c = simp length-take (omega arith)
 
-pub returns-in-Fine : goal.returns-in-Fine
-returns-in-Fine c =
-    let laid : let a = c.args in
-    c.lay_out.new.b ≡ laid_out a.d a.b.now (part rows_place (row_size * a.r) a.b.now) = anew _ _ _ (rows_place + row_size * c.args.r - rows_place) _ c.lay_out.ensures (omega arith) in
-    let h = bytes_all c.args.b.now (λ i. omega (arith, c.shared_slice_known-1.given i)) in
-    tells_fine _ _ _ c.requires _ laid _ _ refl c.write_image.ensures h (sym c.fault.ensures ∙ ap judged c.in-Fine.is)
-    (sym c.same_bytes.ensures ∙ c.if-not-same_bytes.false)
-
-pub returns-in-Bad : goal.returns-in-Bad
-returns-in-Bad c =
-    let laid : let a = c.args in
-    c.lay_out.new.b ≡ laid_out a.d a.b.now (part rows_place (row_size * a.r) a.b.now) = anew _ _ _ (rows_place + row_size * c.args.r - rows_place) _ c.lay_out.ensures (omega arith) in
-    tells_fault _ _ _ c.requires _ laid _ _ refl c.write_image.ensures _ (sym c.fault.ensures ∙ ap judged c.in-Bad.is)
+pub returns : goal.returns
+returns c =
+    let a = c.args in
+    let laid : c.lay_out.new.b ≡ laid_out a.d a.b.now (part rows_place (row_size * a.r) a.b.now) =
+    anew _ _ _ (rows_place + row_size * a.r - rows_place) _ c.lay_out.ensures (omega arith) in
+    let h = bytes_all a.b.now (λ i. omega (arith, c.shared_slice_known-1.given i)) in
+    let said = tells_said _ _ _ c.requires _ laid _ _ refl c.write_image.ensures _ c.fault.ensures h (sym c.same_bytes.ensures ∙ c.if-not-same_bytes.false) in
+    rw c.is_ok.ensures.value said

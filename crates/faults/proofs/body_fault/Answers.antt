@@ -1,51 +1,41 @@
 -- `body_fault` meets its contract. Assumes nothing.
-use mathlib.Core.Path.{◌≡◌, sym, ap, ◌∙◌}
-use mathlib.Core.Option.{none}
-use Rattle.rules.specs.Faults.{bad_contents, bad_sequence}
-use Rattle.faults.specs.declared.Rule.TheVariants.{Rows}
-use Rattle.faults.specs.Places.{placed, Listed}
-use Rattle.faults.specs.Each.{rule_fault}
-use Rattle.faults.proofs.JudgeLaws.{rows_sum, body_contents, body_sequence, body_rows, body_links, body_fine}
+use mathlib.Core.Path.{sym, ◌∙◌}
+use Rattle.std.proofs.lemmas.Result.{err_from_is_err_and}
+use Rattle.faults.proofs.JudgeLaws.{not_found, rows_sum, body_contents, body_sequence, body_rows, body_links}
 use Rattle.faults.proofs.body_fault.Goals as goal
 
-pub returns-in-At : goal.returns-in-At
-returns-in-At c = sym (body_contents _ _ (sym c.contents_fault.ensures ∙ ap placed c.in-At.is))
+pub returns-in_err-at : goal.returns-in_err-at
+returns-in_err-at c =
+    let p = err_from_is_err_and c.from_residual.result c.from_residual.ensures.1 in
+    rw (p.1, p.2) (body_contents _ c.at.result _ (rw c.contents_fault.ensures at c.at.ensures) c.in_err-at.was)
 
-pub returns-in-At-sequence_fault : goal.returns-in-At-sequence_fault
-returns-in-At-sequence_fault c =
-    let no-contents : bad_contents c.args.s.now ≡ none = sym c.contents_fault.ensures ∙ ap placed c.in_default.is in
-    sym (body_sequence _ _ no-contents (sym c.sequence_fault.ensures ∙ ap placed c.in-At-sequence_fault.is))
+pub returns-in_err-at-2 : goal.returns-in_err-at-2
+returns-in_err-at-2 c =
+    let p = err_from_is_err_and c.from_residual-in_err-at-2.result c.from_residual-in_err-at-2.ensures.1 in
+    let a = sym c.contents_fault.ensures ∙ not_found _ _ _ c.at.ensures c.in_ok-at.was in
+    rw (p.1, p.2) (body_sequence _ c.at-2.result _ a (rw c.sequence_fault.ensures at c.at-2.ensures) c.in_err-at-2.was)
 
 pub rule_fault-requires : goal.rule_fault-requires
 rule_fault-requires c =
-    let no-contents : bad_contents c.args.s.now ≡ none = sym c.contents_fault.ensures ∙ ap placed c.in_default.is in
-    let listed : Listed c.args.s.now = record { headed = c.requires; sum = rows_sum _ no-contents } in
-    record { listed = listed; before = tt }
+    let a = sym c.contents_fault.ensures ∙ not_found _ _ _ c.at.ensures c.in_ok-at.was in
+    record { listed = record { headed = c.requires; sum = rows_sum _ a }; before = tt }
 
-pub returns-in-At-rule_fault : goal.returns-in-At-rule_fault
-returns-in-At-rule_fault c =
-    let no-contents : bad_contents c.args.s.now ≡ none = sym c.contents_fault.ensures ∙ ap placed c.in_default.is in
-    let no-sequence : bad_sequence c.args.s.now ≡ none = sym c.sequence_fault.ensures ∙ ap placed c.in_default-sequence_fault.is in
-    sym (body_rows _ _ no-contents no-sequence (sym c.rule_fault.ensures ∙ ap placed c.in-At-rule_fault.is))
+pub returns-in_err-at-3 : goal.returns-in_err-at-3
+returns-in_err-at-3 c =
+    let p = err_from_is_err_and c.from_residual-in_err-at-3.result c.from_residual-in_err-at-3.ensures.1 in
+    let a = sym c.contents_fault.ensures ∙ not_found _ _ _ c.at.ensures c.in_ok-at.was in
+    let b = sym c.sequence_fault.ensures ∙ not_found _ _ _ c.at-2.ensures c.in_ok-at-2.was in
+    rw (p.1, p.2) (body_rows _ c.at-3.result _ a b (rw c.rule_fault.ensures at c.at-3.ensures) c.in_err-at-3.was)
 
 pub rule_fault-requires-2 : goal.rule_fault-requires-2
 rule_fault-requires-2 c =
-    let no-contents : bad_contents c.args.s.now ≡ none = sym c.contents_fault.ensures ∙ ap placed c.in_default.is in
-    let listed : Listed c.args.s.now = record { headed = c.requires; sum = rows_sum _ no-contents } in
-    let no_rows : rule_fault Rows c.args.s.now ≡ none = sym c.rule_fault.ensures ∙ ap placed c.in_default-rule_fault.is in
-    record { listed = listed; before = no_rows }
-
-pub returns-in-At-rule_fault-2 : goal.returns-in-At-rule_fault-2
-returns-in-At-rule_fault-2 c =
-    let no-contents : bad_contents c.args.s.now ≡ none = sym c.contents_fault.ensures ∙ ap placed c.in_default.is in
-    let no-sequence : bad_sequence c.args.s.now ≡ none = sym c.sequence_fault.ensures ∙ ap placed c.in_default-sequence_fault.is in
-    let no_rows : rule_fault Rows c.args.s.now ≡ none = sym c.rule_fault.ensures ∙ ap placed c.in_default-rule_fault.is in
-    sym (body_links _ _ no-contents no-sequence no_rows
-    (sym c.rule_fault-2.ensures ∙ ap placed c.in-At-rule_fault-2.is))
+    let a = sym c.contents_fault.ensures ∙ not_found _ _ _ c.at.ensures c.in_ok-at.was in
+    let r = sym c.rule_fault.ensures ∙ not_found _ _ _ c.at-3.ensures c.in_ok-at-3.was in
+    record { listed = record { headed = c.requires; sum = rows_sum _ a }; before = r }
 
 pub returns : goal.returns
 returns c =
-    let no-contents : bad_contents c.args.s.now ≡ none = sym c.contents_fault.ensures ∙ ap placed c.in_default.is in
-    let no-sequence : bad_sequence c.args.s.now ≡ none = sym c.sequence_fault.ensures ∙ ap placed c.in_default-sequence_fault.is in
-    let no_rows : rule_fault Rows c.args.s.now ≡ none = sym c.rule_fault.ensures ∙ ap placed c.in_default-rule_fault.is in
-    sym (body_fine _ no-contents no-sequence no_rows (sym c.rule_fault-2.ensures ∙ ap placed c.in_default-rule_fault-2.is))
+    let a = sym c.contents_fault.ensures ∙ not_found _ _ _ c.at.ensures c.in_ok-at.was in
+    let b = sym c.sequence_fault.ensures ∙ not_found _ _ _ c.at-2.ensures c.in_ok-at-2.was in
+    let r = sym c.rule_fault.ensures ∙ not_found _ _ _ c.at-3.ensures c.in_ok-at-3.was in
+    body_links _ _ a b r (rw c.rule_fault-2.ensures at c.at-4.ensures)

@@ -1,25 +1,10 @@
 -- `json_text::digit_at` meets its contract. Assumes nothing.
-use Rattle.json_text.proofs.NumberLaws.{digit_yes, digit_no}
 use native.Mathlib.Omega.{arith}
+use Rattle.std.proofs.lemmas.Grind.{common_steps}
+use Rattle.json_text.specs.Grammar.{digit}
+use Rattle.json_text.proofs.CharLaws.{here_test, says_range}
 use Rattle.json_text.proofs.digit_at.Goals as goal
 
-pub returns-then-b-lt48 : goal.returns-then-b-lt48
-returns-then-b-lt48 c =
-    let b = c.peek-b in
-    let a = c.args in
-    let e = b.ensures in
-    digit_no a.s.now a.at (λ l h. omega arith)
-
-pub returns-then-b-gt57 : goal.returns-then-b-gt57
-returns-then-b-gt57 c =
-    let b = c.peek-b in
-    let a = c.args in
-    let e = b.ensures in
-    digit_no a.s.now a.at (λ l h. omega arith)
-
 pub returns : goal.returns
-returns c =
-    let b = c.peek-b in
-    let a = c.args in
-    let e = b.ensures in
-    digit_yes a.s.now a.at (omega arith) (omega arith)
+unfolding digit
+returns c = let a = c.args in here_test _ _ (says_range 48 57 (omega arith)) a.s.now a.at _ (grind (arith, common_steps))

@@ -1,29 +1,15 @@
 -- `json_text::one_of` meets its contract. Assumes nothing.
-use mathlib.Core.Logic.{inl, inr}
-use Rattle.json_text.proofs.NumberLaws.{two_yes, two_no}
-use mathlib.Core.Path.{refl, sym, ◌∙◌}
+use native.Mathlib.Omega.{arith}
+use Rattle.std.proofs.lemmas.Grind.{common_steps}
+use Rattle.json_text.proofs.CharLaws.{here_test, says_byte, says_or}
 use Rattle.json_text.proofs.one_of.Goals as goal
 
 pub returns-then-b-x : goal.returns-then-b-x
 returns-then-b-x c =
-    let if1 = c.if-b-x in
-    let b = c.peek-b in
     let a = c.args in
-    let pre = c.requires in
-    two_yes a.s.now a.at a.x a.y a.x (sym b.ensures ∙ if1.true) pre.0 (inl refl)
+    here_test _ _ (says_or _ _ _ _ (says_byte a.x c.requires.0) (says_byte a.y c.requires.1)) a.s.now a.at _ (grind (arith, common_steps))
 
-pub returns-then-b-y : goal.returns-then-b-y
-returns-then-b-y c =
-    let if2 = c.if-b-y in
-    let b = c.peek-b in
+pub returns-else-b-x : goal.returns-else-b-x
+returns-else-b-x c =
     let a = c.args in
-    let pre = c.requires in
-    two_yes a.s.now a.at a.x a.y a.y (sym b.ensures ∙ if2.true) pre.1 (inr refl)
-
-pub returns : goal.returns
-returns c =
-    let if2 = c.if-b-y in
-    let if1 = c.if-b-x in
-    let b = c.peek-b in
-    let a = c.args in
-    two_no a.s.now a.at a.x a.y (λ e. if1.false (b.ensures ∙ e)) (λ e. if2.false (b.ensures ∙ e))
+    here_test _ _ (says_or _ _ _ _ (says_byte a.x c.requires.0) (says_byte a.y c.requires.1)) a.s.now a.at _ (grind (arith, common_steps))

@@ -7,12 +7,12 @@ use Rattle.json_text.proofs.skip_utf8.Goals as goal
 pub returns-then-b-lt224 : goal.returns-then-b-lt224
 unfolding tail
 returns-then-b-lt224 c =
-    let skip-two = c.skip_two in
+    let skip-ranges = c.skip_ranges in
     let b = c.peek-b in
     let a = c.args in
     let s = a.s.now in
     let e = b.ensures in
-    exact_leads utf8 _ s a.at a.at (utf8_two_lem s a.at (omega arith)) skip-two.result skip-two.ensures
+    exact_leads utf8 _ s a.at a.at (utf8_two_lem s a.at (omega arith)) skip-ranges.result skip-ranges.ensures
 
 pub returns-then-b-lt240 : goal.returns-then-b-lt240
 unfolding tail

@@ -7,43 +7,43 @@ use Rattle.json_text.proofs.skip_utf8_three.Goals as goal
 pub returns-then-b-lt225 : goal.returns-then-b-lt225
 unfolding tail
 returns-then-b-lt225 c =
-    let skip-three = c.skip_three in
+    let skip-ranges = c.skip_ranges in
     let b = c.peek-b in
     let a = c.args in
     let s = a.s.now in
     let e = b.ensures in
-    exact_leads utf8_three _ s a.at a.at (three_1 s a.at (omega arith)) skip-three.result
-    skip-three.ensures
+    exact_leads utf8_three _ s a.at a.at (three_1 s a.at (omega arith)) skip-ranges.result
+    skip-ranges.ensures
 
 pub returns-then-b-lt237 : goal.returns-then-b-lt237
 unfolding tail
 returns-then-b-lt237 c =
-    let skip-three2 = c.skip_three-then-b-lt237 in
+    let skip-ranges2 = c.skip_ranges-then-b-lt237 in
     let b = c.peek-b in
     let a = c.args in
     let s = a.s.now in
     let e = b.ensures in
-    exact_leads utf8_three _ s a.at a.at (three_2 s a.at (omega arith) (omega arith)) skip-three2.result
-    skip-three2.ensures
+    exact_leads utf8_three _ s a.at a.at (three_2 s a.at (omega arith) (omega arith)) skip-ranges2.result
+    skip-ranges2.ensures
 
 pub returns-then-b-lt238 : goal.returns-then-b-lt238
 unfolding tail
 returns-then-b-lt238 c =
-    let skip-three3 = c.skip_three-then-b-lt238 in
+    let skip-ranges3 = c.skip_ranges-then-b-lt238 in
     let b = c.peek-b in
     let a = c.args in
     let s = a.s.now in
     let e = b.ensures in
-    exact_leads utf8_three _ s a.at a.at (three_3 s a.at (omega arith) (omega arith)) skip-three3.result
-    skip-three3.ensures
+    exact_leads utf8_three _ s a.at a.at (three_3 s a.at (omega arith) (omega arith)) skip-ranges3.result
+    skip-ranges3.ensures
 
 pub returns : goal.returns
 unfolding tail
 returns c =
-    let skip-three4 = c.skip_three-2 in
+    let skip-ranges4 = c.skip_ranges-2 in
     let b = c.peek-b in
     let a = c.args in
     let s = a.s.now in
     let e = b.ensures in
-    exact_leads utf8_three _ s a.at a.at (three_4 s a.at (omega arith)) skip-three4.result
-    skip-three4.ensures
+    exact_leads utf8_three _ s a.at a.at (three_4 s a.at (omega arith)) skip-ranges4.result
+    skip-ranges4.ensures

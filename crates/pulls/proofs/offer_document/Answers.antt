@@ -5,6 +5,7 @@ use native.Mathlib.Omega.{arith}
 use Rattle.rules.specs.Pull.{count}
 use Rattle.store.proofs.FitLaws.{stored_laid}
 use Rattle.pulls.proofs.OfferLaws.{LeafRow, left_all, row_within, left_inner, left_counted, can_count, can_offer, left_none}
+use Rattle.pulls.proofs.offer_document.Goals.{After-rev_at-rev}
 use Rattle.pulls.proofs.offer_document.Goals as goal
 
 -- ---- the needs
@@ -20,75 +21,35 @@ loop-i-init c = left_all c.body_of-body.ensures c.requires
 pub kind_at-requires : goal.kind_at-requires
 kind_at-requires c = row_within c.body_of-body.ensures c.loop-i.invariant c.loop-i-test.true
 
-pub loop-i-smaller-in-Inner : goal.loop-i-smaller-in-Inner
-loop-i-smaller-in-Inner c = omega arith
-
-pub loop-i-preserved-in-Inner : goal.loop-i-preserved-in-Inner
-loop-i-preserved-in-Inner c =
-    left_inner c.body_of-body.ensures c.loop-i.invariant c.loop-i-test.true
-    (sym c.kind_at.ensures ∙ c.in-Inner.is)
-
 pub rev_at-rev-requires : goal.rev_at-rev-requires
-rev_at-rev-requires c =
-    row_within c.body_of-body.ensures c.loop-i.invariant c.loop-i-test.true
+rev_at-rev-requires c = row_within c.body_of-body.ensures c.loop-i.invariant c.loop-i-test.true
+
+-- the row of a leaf
+row : (c : After-rev_at-rev) → LeafRow c.args.source.now c.args.d c.body_of-body.result (c.loop-i.i - 1) c.id_of-id.result.now c.rev_at-rev.result c.in-Some.content
+row c = record { named = c.id_of-id.ensures; kind = sym c.kind_at.ensures ∙ c.in-Some.is; rev = c.rev_at-rev.ensures }
 
 pub offer_leaf-requires : goal.offer_leaf-requires
 offer_leaf-requires c =
-    let row : LeafRow c.args.source.now c.args.d c.body_of-body.result (c.loop-i.i - 1)
-    c.id_of-id.result.now c.rev_at-rev.result c.in-Leaf.content = record {
-      named = c.id_of-id.ensures;
-      kind = sym c.kind_at.ensures ∙ c.in-Leaf.is;
-      rev = c.rev_at-rev.ensures;
-    } in
-    can_offer c.body_of-body.ensures c.loop-i.invariant c.loop-i-test.true row c.requires
+    can_offer c.body_of-body.ensures c.loop-i.invariant c.loop-i-test.true (row (goal.at.offer_leaf-requires c).After-rev_at-rev) c.requires
 
 pub count_refused-c-requires : goal.count_refused-c-requires
-count_refused-c-requires c =
-    let row : LeafRow c.args.source.now c.args.d c.body_of-body.result (c.loop-i.i - 1)
-    c.id_of-id.result.now c.rev_at-rev.result c.in-Leaf.content = record {
-      named = c.id_of-id.ensures;
-      kind = sym c.kind_at.ensures ∙ c.in-Leaf.is;
-      rev = c.rev_at-rev.ensures;
-    } in
-    can_count c.body_of-body.ensures c.loop-i.invariant c.loop-i-test.true row
+count_refused-c-requires c = can_count c.body_of-body.ensures c.loop-i.invariant c.loop-i-test.true (row (goal.at.count_refused-c-requires c).After-rev_at-rev)
 
-pub loop-i-smaller-in_default : goal.loop-i-smaller-in_default
-loop-i-smaller-in_default c = omega arith
-
-pub loop-i-preserved-in_default : goal.loop-i-preserved-in_default
-loop-i-preserved-in_default c =
-    let row : LeafRow c.args.source.now c.args.d c.body_of-body.result (c.loop-i.i - 1)
-    c.id_of-id.result.now c.rev_at-rev.result c.in-Leaf.content = record {
-      named = c.id_of-id.ensures;
-      kind = sym c.kind_at.ensures ∙ c.in-Leaf.is;
-      rev = c.rev_at-rev.ensures;
-    } in
-    left_counted c.body_of-body.ensures c.loop-i.invariant c.loop-i-test.true row c.offer_leaf.ensures
-    (c.count_refused-c.ensures _ ∙ ap (λ a. count a c.loop-i.c) (sym c.in_default.is))
+pub loop-i-preserved-in_default-offer_leaf : goal.loop-i-preserved-in_default-offer_leaf
+loop-i-preserved-in_default-offer_leaf c =
+    left_counted c.body_of-body.ensures c.loop-i.invariant c.loop-i-test.true (row (goal.at.loop-i-preserved-in_default-offer_leaf c).After-rev_at-rev) c.offer_leaf.ensures
+    (c.count_refused-c.ensures _ ∙ ap (λ a. count a c.loop-i.c) (sym c.in_default-offer_leaf.is))
 
 pub count_accepted-c-requires : goal.count_accepted-c-requires
-count_accepted-c-requires c =
-    let row : LeafRow c.args.source.now c.args.d c.body_of-body.result (c.loop-i.i - 1)
-    c.id_of-id.result.now c.rev_at-rev.result c.in-Leaf.content = record {
-      named = c.id_of-id.ensures;
-      kind = sym c.kind_at.ensures ∙ c.in-Leaf.is;
-      rev = c.rev_at-rev.ensures;
-    } in
-    can_count c.body_of-body.ensures c.loop-i.invariant c.loop-i-test.true row
+count_accepted-c-requires c = can_count c.body_of-body.ensures c.loop-i.invariant c.loop-i-test.true (row (goal.at.count_accepted-c-requires c).After-rev_at-rev)
 
-pub loop-i-smaller : goal.loop-i-smaller
-loop-i-smaller c = omega arith
+pub loop-i-preserved-in-Some : goal.loop-i-preserved-in-Some
+loop-i-preserved-in-Some c =
+    left_counted c.body_of-body.ensures c.loop-i.invariant c.loop-i-test.true (row (goal.at.loop-i-preserved-in-Some c).After-rev_at-rev) c.offer_leaf.ensures
+    (c.count_accepted-c.ensures ∙ ap (λ a. count a c.loop-i.c) (sym c.in-Ok.is))
 
 pub loop-i-preserved : goal.loop-i-preserved
-loop-i-preserved c =
-    let row : LeafRow c.args.source.now c.args.d c.body_of-body.result (c.loop-i.i - 1)
-    c.id_of-id.result.now c.rev_at-rev.result c.in-Leaf.content = record {
-      named = c.id_of-id.ensures;
-      kind = sym c.kind_at.ensures ∙ c.in-Leaf.is;
-      rev = c.rev_at-rev.ensures;
-    } in
-    left_counted c.body_of-body.ensures c.loop-i.invariant c.loop-i-test.true row c.offer_leaf.ensures
-    (c.count_accepted-c.ensures ∙ ap (λ a. count a c.loop-i.c) (sym c.in-Accepted.is))
+loop-i-preserved c = left_inner c.body_of-body.ensures c.loop-i.invariant c.loop-i-test.true (sym c.kind_at.ensures ∙ c.in_default.is)
 
 pub returns : goal.returns
 returns c = left_none c.body_of-body.ensures c.loop-i.invariant (omega arith)

@@ -4,6 +4,3 @@ use Rattle.pulls.proofs.offer_document.Given as goal
 
 abbrev pub invariant-loop-i : goal.invariant-loop-i
 invariant-loop-i l = Left l.source l.d l.body l.initial.c l.initial.target l.initial.path l.target l.path l.i l.c
-
-abbrev pub decreases-loop-i : goal.decreases-loop-i
-decreases-loop-i l = l.i

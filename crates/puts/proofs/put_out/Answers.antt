@@ -1,12 +1,15 @@
 -- `put_out` meets its contract. Assumes nothing.
+use Rattle.std.proofs.lemmas.Result.{err_from_is_err_and}
 use Rattle.puts.proofs.OpenLaws.{put_refused, put_opened}
 use Rattle.puts.proofs.put_out.Goals as goal
 
+pub returns-in_err-rows_of : goal.returns-in_err-rows_of
+returns-in_err-rows_of c =
+    let p = err_from_is_err_and c.from_residual.result c.from_residual.ensures.1 in
+    rw (p.1, p.2) (put_refused _ _ _ (c.rows_of.ensures.refused _ c.in_err-rows_of.was))
+
 pub answer_lines-requires : goal.answer_lines-requires
-answer_lines-requires c = (c.rows_of.ensures.at _ c.in-At.is).can
+answer_lines-requires c = (c.rows_of.ensures.at _ c.in_ok-rows_of.was).can
 
-pub returns-in-At : goal.returns-in-At
-returns-in-At c = put_opened _ _ _ (c.rows_of.ensures.at _ c.in-At.is) c.answer_lines.ensures
-
-pub returns-in-Refused : goal.returns-in-Refused
-returns-in-Refused c = put_refused _ _ _ (c.rows_of.ensures.refused _ c.in-Refused.is)
+pub returns : goal.returns
+returns c = put_opened _ _ _ (c.rows_of.ensures.at _ c.in_ok-rows_of.was) c.answer_lines.ensures

@@ -4,8 +4,8 @@ use lib.ListN.{length}
 use Rattle.takes.proofs.IdsLaws.{ReadingIds}
 use Rattle.takes.proofs.ids_at.Given as goal
 
-abbrev pub invariant-loop-at : goal.invariant-loop-at
-invariant-loop-at l = ReadingIds 12 l.s l.at l.i l.n l.path
+abbrev pub invariant-loop-hash : goal.invariant-loop-hash
+invariant-loop-hash l = ReadingIds 12 l.s l.at l.i l.n l.path
 
-abbrev pub decreases-loop-at : goal.decreases-loop-at
-decreases-loop-at l = length l.s - l.i
+abbrev pub decreases-loop-hash : goal.decreases-loop-hash
+decreases-loop-hash l = length l.s - l.i

@@ -1,7 +1,9 @@
 -- `see` meets its contract. Assumes nothing.
-use Rattle.takes.specs.Spots.{see_at}
+use Rattle.takes.proofs.SpotLaws.{tag_place, see_some, see_none}
 use Rattle.takes.proofs.see.Goals as goal
 
-pub returns : goal.returns
-unfolding see_at
-returns c = rw (c.seen.ensures, c.seen-2.ensures, c.seen-3.ensures, c.seen-4.ensures, c.seen-5.ensures, c.seen-6.ensures, c.seen-7.ensures)
+pub returns-in-Some : goal.returns-in-Some
+returns-in-Some c = see_some _ _ _ _ _ c.in-Some.is (tag_place c.in-Some.name) c.seen.ensures
+
+pub returns-in_default : goal.returns-in_default
+returns-in_default c = see_none _ _ _ _ c.in_default.is

@@ -1,5 +1,5 @@
 -- `text::put_decimal` meets its contract. Assumes nothing.
-use native.Mathlib.Omega.{arith}
+use Rattle.std.proofs.Common.{arith}
 use Rattle.text.proofs.TextLaws.{length-digit, length_more, put_digit, put_last, in_last}
 use Rattle.text.proofs.+put_decimal.Goals as goal
 

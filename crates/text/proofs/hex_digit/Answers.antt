@@ -1,6 +1,5 @@
 -- `text::hex_digit` meets its contract. Assumes nothing.
-use mathlib.Core.Path.{refl}
-use borrow.Author.Tests.{lt-ltb, le-ltb}
+use Rattle.std.proofs.Common.{refl, lt-ltb, le-ltb}
 use Rattle.rules.specs.Report.{hex_digit}
 use Rattle.text.proofs.hex_digit.Goals as goal
 

@@ -2,8 +2,8 @@
 use Rattle.edits.proofs.ParentLaws.{last_known, last_none}
 use Rattle.edits.proofs.parent.last_number.Goals as goal
 
-pub returns-then-p : goal.returns-then-p
-returns-then-p c = λ r e t. last_known _ r e t c.if-p.true
+pub returns-in-Some : goal.returns-in-Some
+returns-in-Some c = λ r e t. last_known _ r e t _ c.in-Some.is
 
-pub returns : goal.returns
-returns c = λ r e t. last_none _ r e t c.if-p.false
+pub returns-in-None : goal.returns-in-None
+returns-in-None c = λ r e t. last_none _ r e t c.in-None.is

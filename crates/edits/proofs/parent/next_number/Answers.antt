@@ -1,13 +1,9 @@
 -- `parent::next_number` meets its contract. Assumes nothing.
-use native.Mathlib.Omega.{arith}
 use Rattle.edits.proofs.ParentLaws.{after_known, after_none}
 use Rattle.edits.proofs.parent.next_number.Goals as goal
 
-pub overflow_add-result : goal.overflow_add-result
-overflow_add-result c = let h = c.requires c.if-p.true in omega arith
+pub returns-in-Some : goal.returns-in-Some
+returns-in-Some c = λ r e t. after_known _ r e t _ c.in-Some.is
 
-pub returns-then-p : goal.returns-then-p
-returns-then-p c = λ r e t. after_known _ r e t c.if-p.true
-
-pub returns : goal.returns
-returns c = λ r e t. after_none _ r e t c.if-p.false
+pub returns-in-None : goal.returns-in-None
+returns-in-None c = λ r e t. after_none _ r e t c.in-None.is

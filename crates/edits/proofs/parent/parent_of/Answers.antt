@@ -3,8 +3,8 @@ use mathlib.Core.Path.{◌∙◌}
 use Rattle.edits.proofs.ParentLaws.{parent_named_lem, parent_wins}
 use Rattle.edits.proofs.parent.parent_of.Goals as goal
 
-pub returns-then-named : goal.returns-then-named
-returns-then-named c = λ e on. parent_named_lem on c.if-named.true
+pub returns-in-Some : goal.returns-in-Some
+returns-in-Some c = λ e on. parent_named_lem on _ c.in-Some.is
 
-pub returns : goal.returns
-returns c = λ e on. c.deleted_winner.ensures ∙ parent_wins on c.if-named.false
+pub returns-in-None : goal.returns-in-None
+returns-in-None c = λ e on. c.deleted_winner.ensures ∙ parent_wins on c.in-None.is

@@ -1,6 +1,5 @@
 -- `entry::id` meets its contract. Assumes nothing.
-use mathlib.Core.Path.{refl, ap}
-use Prim.Native.Nat.{ℕ, ◌+◌}
+use Rattle.std.proofs.Common.{refl, ap, ℕ, ◌+◌}
 use Rattle.layout.proofs.FieldLaws.{id_slice}
 use Rattle.layout.proofs.entry.id.Goals as goal
 

@@ -1,8 +1,6 @@
 -- `entry::id_size` meets its contract. Assumes nothing.
 use Rattle.rules.specs.Layout.{entry_of, entry_size}
-use mathlib.Core.Path.{sym}
-use native.Mathlib.Nat.{add-zero}
-use native.Mathlib.Omega.{arith}
+use Rattle.std.proofs.Common.{sym, add-zero, arith}
 use Rattle.layout.proofs.FieldLaws.{byte_field}
 use Rattle.layout.proofs.entry.id_size.Goals as goal
 

@@ -1,7 +1,6 @@
 -- `entry::rows` meets its contract. Assumes nothing.
 use Rattle.rules.specs.Layout.{entry_of, entry_size, count_in}
-use mathlib.Core.Path.{refl}
-use native.Mathlib.Omega.{arith}
+use Rattle.std.proofs.Common.{refl, arith}
 use Rattle.layout.proofs.FieldLaws.{number_field}
 use Rattle.layout.proofs.entry.rows.Goals as goal
 

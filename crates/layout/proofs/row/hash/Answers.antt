@@ -1,7 +1,6 @@
 -- `row::hash` meets its contract. Assumes nothing.
 use Rattle.rules.specs.Layout.{row_of, row_size, hash_in}
-use mathlib.Core.Path.{refl}
-use native.Mathlib.Omega.{arith}
+use Rattle.std.proofs.Common.{refl, arith}
 use Rattle.layout.proofs.FieldLaws.{hash_field}
 use Rattle.layout.proofs.row.hash.Goals as goal
 

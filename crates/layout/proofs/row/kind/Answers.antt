@@ -1,8 +1,6 @@
 -- `row::kind` meets its contract. Assumes nothing.
 use Rattle.rules.specs.Layout.{row_of, row_size, kind_in}
-use mathlib.Core.Path.{refl}
-use native.Mathlib.Omega.{arith}
-use Prim.Native.Nat.{◌+◌}
+use Rattle.std.proofs.Common.{refl, arith, ◌+◌}
 use Rattle.layout.proofs.FieldLaws.{byte_field}
 use Rattle.layout.proofs.row.kind.Goals as goal
 

@@ -1,7 +1,6 @@
 -- `row::label` meets its contract. Assumes nothing.
 use Rattle.rules.specs.Layout.{row_of, row_size, label_in}
-use mathlib.Core.Path.{refl}
-use native.Mathlib.Omega.{arith}
+use Rattle.std.proofs.Common.{refl, arith}
 use Rattle.layout.proofs.FieldLaws.{number_field}
 use Rattle.layout.proofs.row.label.Goals as goal
 

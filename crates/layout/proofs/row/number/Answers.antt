@@ -1,8 +1,6 @@
 -- `row::number` meets its contract. Assumes nothing.
 use Rattle.rules.specs.Layout.{row_of, row_size}
-use mathlib.Core.Path.{sym}
-use native.Mathlib.Nat.{add-zero}
-use native.Mathlib.Omega.{arith}
+use Rattle.std.proofs.Common.{sym, add-zero, arith}
 use Rattle.layout.proofs.FieldLaws.{number_field}
 use Rattle.layout.proofs.row.number.Goals as goal
 

@@ -1,7 +1,6 @@
 -- `row::parent` meets its contract. Assumes nothing.
 use Rattle.rules.specs.Layout.{row_of, row_size, parent_hash_in}
-use mathlib.Core.Path.{refl}
-use native.Mathlib.Omega.{arith}
+use Rattle.std.proofs.Common.{refl, arith}
 use Rattle.layout.proofs.FieldLaws.{hash_field}
 use Rattle.layout.proofs.row.parent.Goals as goal
 

@@ -1,7 +1,6 @@
 -- `row::row_zero` meets its contract. Assumes nothing.
 use Rattle.rules.specs.Layout.{row_of, row_size, row_zero_in}
-use mathlib.Core.Path.{refl}
-use native.Mathlib.Omega.{arith}
+use Rattle.std.proofs.Common.{refl, arith}
 use Rattle.layout.proofs.FieldLaws.{number_field}
 use Rattle.layout.proofs.row.row_zero.Goals as goal
 

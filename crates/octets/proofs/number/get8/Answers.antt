@@ -1,14 +1,7 @@
 -- `number::get8` meets its contract. Assumes nothing.
-use native.Mathlib.Omega.{arith}
-use Rattle.octets.proofs.NumberLaws.{bytes_both, value_eight}
+use Rattle.std.proofs.Common.{arith}
+use Rattle.octets.proofs.NumberLaws.{number_read}
 use Rattle.octets.proofs.number.get8.Goals as goal
 
 pub returns : goal.returns
-returns c =
-    let a = c.args in
-    let v = value_eight a.s.now a.at (omega arith) in
-    record {
-      is = omega arith;
-      small = omega arith;
-      bytes = bytes_both a.s.now a.at 4 c.get4.ensures.bytes c.get4-2.ensures.bytes;
-    }
+returns c = number_read _ _ 7 c.requires c.type_inv.s c.bytes_at.ensures c.from_be_bytes.ensures (omega arith)

@@ -3,4 +3,4 @@ use Rattle.reads.proofs.MissingLaws.{asked_fields}
 use Rattle.reads.proofs.document.asked_rev.Goals as goal
 
 pub returns : goal.returns
-returns c = asked_fields _ _ _ _ c.requires c.get4-number.ensures.is c.get_hash-hash.ensures.is
+returns c = asked_fields _ _ _ c.requires c.get4.ensures.is c.get_hash.ensures.is

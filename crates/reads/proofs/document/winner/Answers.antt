@@ -1,12 +1,15 @@
 -- `document::winner` meets its contract. Assumes nothing.
+use Rattle.std.proofs.lemmas.Result.{err_from_is_err_and}
 use Rattle.reads.proofs.DocumentLaws.{winner_reads, read_opened, read_refused}
 use Rattle.reads.proofs.document.winner.Goals as goal
 
+pub returns-in_err-rows_of : goal.returns-in_err-rows_of
+returns-in_err-rows_of c =
+    let p = err_from_is_err_and c.from_residual.result c.from_residual.ensures.1 in
+    rw (p.1, p.2) (read_refused (winner_reads _ _ _) (c.rows_of.ensures.refused _ c.in_err-rows_of.was))
+
 pub answer_winner-requires : goal.answer_winner-requires
-answer_winner-requires c = (c.rows_of.ensures.at _ c.in-At.is).rows
+answer_winner-requires c = (c.rows_of.ensures.at _ c.in_ok-rows_of.was).rows
 
-pub returns-in-At : goal.returns-in-At
-returns-in-At c = read_opened (winner_reads _ _ _) (c.rows_of.ensures.at _ c.in-At.is) c.answer_winner.ensures
-
-pub returns-in-Refused : goal.returns-in-Refused
-returns-in-Refused c = read_refused (winner_reads _ _ _) (c.rows_of.ensures.refused _ c.in-Refused.is)
+pub returns : goal.returns
+returns c = read_opened (winner_reads _ _ _) (c.rows_of.ensures.at _ c.in_ok-rows_of.was) c.answer_winner.ensures

@@ -3,11 +3,11 @@ use Rattle.reads.proofs.OpenLaws.{has_tree}
 use Rattle.reads.proofs.NextLaws.{next_within, changes_none, changes_next}
 use Rattle.reads.proofs.replica.changes.Goals as goal
 
+pub returns-in_default : goal.returns-in_default
+returns-in_default c = changes_none _ _ _ c.in_default.is c.next_after.ensures
+
 pub answer_change-requires : goal.answer_change-requires
-answer_change-requires c = has_tree _ _ c.requires (next_within _ _ c.in-At.is c.next_after.ensures)
+answer_change-requires c = has_tree _ _ c.requires (next_within _ _ c.in-Some.is c.next_after.ensures)
 
-pub returns-in-Nobody : goal.returns-in-Nobody
-returns-in-Nobody c = changes_none _ _ _ c.in-Nobody.is c.next_after.ensures
-
-pub returns-in-At : goal.returns-in-At
-returns-in-At c = changes_next _ _ _ c.in-At.is c.next_after.ensures c.answer_change.ensures
+pub returns : goal.returns
+returns c = changes_next _ _ _ c.in-Some.is c.next_after.ensures c.answer_change.ensures

@@ -10,16 +10,14 @@ pub documents_held-d-requires : goal.documents_held-d-requires
 documents_held-d-requires c = stored_laid _ c.requires
 
 pub loop-d-init : goal.loop-d-init
-loop-d-init c = (omega (arith, c.documents_held-d.ensures), next_none _ _ _ c.documents_held-d.ensures)
+loop-d-init c = next_none _ _ _ c.documents_held-d.ensures
 
-pub own_sequence-q-requires : goal.own_sequence-q-requires
-own_sequence-q-requires c = record { laid = stored_laid _ c.requires; within = omega (arith, c.loop-d.invariant.0) }
+pub own_sequence-requires : goal.own_sequence-requires
+own_sequence-requires c = record { laid = stored_laid _ c.requires; within = omega (arith, c.documents_held-d.ensures) }
 
 pub loop-d-preserved : goal.loop-d-preserved
-loop-d-preserved c = (
-  omega (arith, c.loop-d.invariant.0),
-  next_more _ _ (c.loop-d.d - 1) c.loop-d.found (omega arith) c.loop-d.invariant.0 c.own_sequence-q.ensures c.earlier-found.ensures c.loop-d.invariant.1,
-)
+loop-d-preserved c =
+    next_more _ _ (c.loop-d.d - 1) c.loop-d.found (omega arith) (omega (arith, c.documents_held-d.ensures)) c.own_sequence.ensures c.earlier-found.ensures c.loop-d.invariant
 
 pub returns : goal.returns
-returns c = let l = c.loop-d in let e : l.d ≡ 0 = omega arith in rw e at l.invariant.1
+returns c = let l = c.loop-d in let e : l.d ≡ 0 = omega arith in rw e at l.invariant

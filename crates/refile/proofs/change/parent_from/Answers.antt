@@ -3,11 +3,11 @@ use native.Mathlib.Omega.{arith}
 use Rattle.refile.proofs.ChangeLaws.{parent_is, parent_is_none}
 use Rattle.refile.proofs.change.parent_from.Goals as goal
 
-pub get_hash-hash-requires : goal.get_hash-hash-requires
-get_hash-hash-requires c = let s = c.requires c.if-named-eq1.true in omega arith
+pub returns-then-named-ne1 : goal.returns-then-named-ne1
+returns-then-named-ne1 c = parent_is_none _ _ c.if-named-ne1.true
 
-pub returns-then-named-eq1 : goal.returns-then-named-eq1
-returns-then-named-eq1 c = parent_is _ _ _ _ c.if-named-eq1.true (c.requires c.if-named-eq1.true) c.get_hash-hash.ensures
+pub get_hash-hash-requires : goal.get_hash-hash-requires
+get_hash-hash-requires c = let s = c.requires c.if-named-ne1.false in omega arith
 
 pub returns : goal.returns
-returns c = parent_is_none _ _ _ c.if-named-eq1.false
+returns c = parent_is _ _ _ _ c.if-named-ne1.false (c.requires c.if-named-ne1.false) c.get_hash-hash.ensures

@@ -1,14 +1,14 @@
 -- `refile_fresh` meets its contract. Assumes nothing.
 use mathlib.Core.Path.{refl}
+use Rattle.refile.specs.declared.number.HouseRefusal.TheVariants.{BadReplica}
 use Rattle.refile.specs.Boundary.{fresh_call}
-use Rattle.refile.proofs.CallLaws.{bad_size, sized, refuses, does, keeps, accepts}
+use Rattle.refile.proofs.CallLaws.{bad_size, sized, refuses, does, unfit_keeps, accepts}
 use Rattle.refile.proofs.ChangeLaws.{fresh_stands}
-use native.Mathlib.Omega.{arith}
 use Rattle.refile.proofs.change.refile_fresh.Goals as goal
 
 pub returns-then-replica-ne-SIZE : goal.returns-then-replica-ne-SIZE
 unfolding fresh_call
-returns-then-replica-ne-SIZE c = keeps 100 (λ e. omega arith) c.refused.ensures (refuses 100 (bad_size _ c.if-replica-ne-SIZE.true) (λ e. omega arith) c.refused.ensures refl)
+returns-then-replica-ne-SIZE c = unfit_keeps BadReplica c.unfit.ensures (refuses 100 (bad_size _ c.if-replica-ne-SIZE.true) c.unfit.ensures refl)
 
 pub returns : goal.returns
 unfolding fresh_call

@@ -1,14 +1,14 @@
 -- `refile_load` meets its contract. Assumes nothing.
 use mathlib.Core.Path.{refl}
+use Rattle.refile.specs.declared.number.HouseRefusal.TheVariants.{BadReplica}
 use Rattle.refile.specs.Boundary.{load_call}
-use Rattle.refile.proofs.CallLaws.{bad_size, refuses, keeps}
+use Rattle.refile.proofs.CallLaws.{bad_size, refuses, unfit_keeps}
 use Rattle.refile.proofs.ChangeLaws.{loaded_small, loads_on}
-use native.Mathlib.Omega.{arith}
 use Rattle.refile.proofs.change.refile_load.Goals as goal
 
 pub returns-then-replica-ne-SIZE : goal.returns-then-replica-ne-SIZE
 unfolding load_call
-returns-then-replica-ne-SIZE c = keeps 100 (λ e. omega arith) c.refused.ensures (refuses 100 (bad_size _ c.if-replica-ne-SIZE.true) (λ e. omega arith) c.refused.ensures refl)
+returns-then-replica-ne-SIZE c = unfit_keeps BadReplica c.unfit.ensures (refuses 100 (bad_size _ c.if-replica-ne-SIZE.true) c.unfit.ensures refl)
 
 pub loaded-requires : goal.loaded-requires
 loaded-requires c = loaded_small _ _ _ _ c.load.ensures

@@ -1,20 +1,20 @@
 -- `refile_write` meets its contract. Assumes nothing.
 use Rattle.refile.specs.Boundary.{write_call}
-use Rattle.refile.proofs.CallLaws.{none_first, lent_stands, keeps, lent_refuses}
+use Rattle.refile.proofs.CallLaws.{none_first, lent_stands, unfit_keeps, lent_refuses}
 use Rattle.refile.proofs.ChangeLaws.{write_refused, write_done}
 use Rattle.refile.proofs.change.refile_write.Goals as goal
 
-pub returns-then-lent-ne0 : goal.returns-then-lent-ne0
+pub returns-in-Err : goal.returns-in-Err
 unfolding write_call
-returns-then-lent-ne0 c = keeps _ c.if-lent-ne0.true c.refused.ensures (lent_refuses _ _ _ c.bad_replica-lent.ensures c.if-lent-ne0.true c.refused.ensures)
+returns-in-Err c = unfit_keeps _ c.unfit.ensures (lent_refuses _ _ c.check_replica.ensures c.in-Err.is c.unfit.ensures)
 
-pub returns-then-house-ne0 : goal.returns-then-house-ne0
-returns-then-house-ne0 c = write_refused _ _ _ _ _ _ (none_first _ _ c.bad_replica-lent.ensures c.if-lent-ne0.false) _ _ c.bad_content-house.ensures c.if-house-ne0.true c.refused-then-house-ne0.ensures
+pub returns-in-Err-check_content : goal.returns-in-Err-check_content
+returns-in-Err-check_content c = write_refused _ _ _ _ _ _ (none_first _ c.check_replica.ensures c.in_default.is) c.check_content.ensures c.in-Err-check_content.is c.unfit-in-Err-check_content.ensures
 
 pub write-requires : goal.write-requires
-write-requires c = lent_stands _ (none_first _ _ c.bad_replica-lent.ensures c.if-lent-ne0.false) c.requires
+write-requires c = lent_stands _ (none_first _ c.check_replica.ensures c.in_default.is) c.requires
 
 pub returns : goal.returns
 returns c =
-    write_done _ _ _ _ _ _ (none_first _ _ c.bad_replica-lent.ensures c.if-lent-ne0.false) _ _ _ _ _ c.bad_content-house.ensures c.if-house-ne0.false c.content_from-content.ensures
+    write_done _ _ _ _ _ _ (none_first _ c.check_replica.ensures c.in_default.is) _ _ _ _ _ c.check_content.ensures c.in_default-check_content.is c.content_from-content.ensures
     c.write.ensures c.written.ensures

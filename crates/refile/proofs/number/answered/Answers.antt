@@ -4,5 +4,5 @@ use Rattle.rules.specs.Answer.{answered_number}
 use Rattle.refile.proofs.NumberLaws.{refused_case}
 use Rattle.refile.proofs.number.answered.Goals as goal
 
-pub returns-in-Refused : goal.returns-in-Refused
-returns-in-Refused c = refused_case answered_number _ _ c.in-Refused.n _ _ c.in-Refused.is refl c.refusal_number.ensures.is c.refused.ensures
+pub returns-in-Err : goal.returns-in-Err
+returns-in-Err c = refused_case answered_number _ _ c.in-Err.n _ _ c.in-Err.is refl c.refusal_number.ensures.is c.refused.ensures

@@ -1,31 +1,34 @@
 -- `refile_changes` meets its contract. Assumes nothing.
+use Rattle.std.proofs.Common.{ap, ◌∙◌, Option, Result, Ok}
+use Rattle.rules.specs.declared.Change.{Change}
+use Rattle.rules.specs.declared.Refusal.{Refusal}
 use Rattle.refile.specs.Boundary.{changes_call}
 use Rattle.refile.proofs.CallLaws.{none_first, lent_stands, lent_refuses}
 use Rattle.refile.proofs.ReadCallLaws.{changes_short, changes_next, changes_none, changes_refused}
 use Rattle.refile.proofs.read.refile_changes.Goals as goal
 
-pub returns-then-lent-ne0 : goal.returns-then-lent-ne0
+pub returns-in-Err : goal.returns-in-Err
 unfolding changes_call
-returns-then-lent-ne0 c = lent_refuses _ _ _ c.bad_replica-lent.ensures c.if-lent-ne0.true c.refused.ensures
+returns-in-Err c = lent_refuses _ _ c.check_replica.ensures c.in-Err.is c.unfit.ensures
 
 pub short_changes-requires : goal.short_changes-requires
-short_changes-requires c = lent_stands _ (none_first _ _ c.bad_replica-lent.ensures c.if-lent-ne0.false) c.requires
+short_changes-requires c = lent_stands _ (none_first _ c.check_replica.ensures c.in_default.is) c.requires
 
 pub returns-then-answer-lt-CHANGES : goal.returns-then-answer-lt-CHANGES
-returns-then-answer-lt-CHANGES c = changes_short _ _ _ _ (none_first _ _ c.bad_replica-lent.ensures c.if-lent-ne0.false) _ c.if-answer-lt-CHANGES.true c.short_changes.ensures
+returns-then-answer-lt-CHANGES c = changes_short _ _ _ _ (none_first _ c.check_replica.ensures c.in_default.is) _ c.if-answer-lt-CHANGES.true c.short_changes.ensures
 
 pub changes-requires : goal.changes-requires
-changes-requires c = lent_stands _ (none_first _ _ c.bad_replica-lent.ensures c.if-lent-ne0.false) c.requires
+changes-requires c = lent_stands _ (none_first _ c.check_replica.ensures c.in_default.is) c.requires
 
-pub returns-in-Next : goal.returns-in-Next
-returns-in-Next c =
-    changes_next _ _ _ _ (none_first _ _ c.bad_replica-lent.ensures c.if-lent-ne0.false) _ _ _ _ c.if-answer-lt-CHANGES.false c.in-Next.is c.changes.ensures
+pub returns-in-Ok-Some : goal.returns-in-Ok-Some
+returns-in-Ok-Some c =
+    changes_next _ _ _ _ (none_first _ c.check_replica.ensures c.in_default.is) _ _ _ _ c.if-answer-lt-CHANGES.false (c.in-Ok-Some.is ∙ ap {B = Result (Option Change) Refusal} (λ (o : Option Change). Ok o) c.in-Ok-Some.field-0-is) c.changes.ensures
     c.put_change.ensures
 
-pub returns-in-NoMore : goal.returns-in-NoMore
-returns-in-NoMore c = changes_none _ _ _ _ (none_first _ _ c.bad_replica-lent.ensures c.if-lent-ne0.false) _ _ c.in-NoMore.is c.changes.ensures
+pub returns-in-Ok-None : goal.returns-in-Ok-None
+returns-in-Ok-None c = changes_none _ _ _ _ (none_first _ c.check_replica.ensures c.in_default.is) _ _ (c.in-Ok-None.is ∙ ap {B = Result (Option Change) Refusal} (λ (o : Option Change). Ok o) c.in-Ok-None.field-0-is) c.changes.ensures
 
-pub returns-in-Refused : goal.returns-in-Refused
-returns-in-Refused c =
-    changes_refused _ _ _ _ (none_first _ _ c.bad_replica-lent.ensures c.if-lent-ne0.false) _ _ _ _ _ c.in-Refused.is c.changes.ensures
-    c.refusal_number.ensures.is c.refused-in-Refused.ensures
+pub returns-in-Err-changes : goal.returns-in-Err-changes
+returns-in-Err-changes c =
+    changes_refused _ _ _ _ (none_first _ c.check_replica.ensures c.in_default.is) _ _ _ _ _ c.in-Err-changes.is c.changes.ensures
+    c.refusal_number.ensures.is c.refused.ensures

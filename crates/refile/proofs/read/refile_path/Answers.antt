@@ -4,17 +4,17 @@ use Rattle.refile.proofs.CallLaws.{none_first, lent_stands, lent_refuses}
 use Rattle.refile.proofs.ReadCallLaws.{path_bad_hash, path_answers}
 use Rattle.refile.proofs.read.refile_path.Goals as goal
 
-pub returns-then-lent-ne0 : goal.returns-then-lent-ne0
+pub returns-in-Err : goal.returns-in-Err
 unfolding path_call
-returns-then-lent-ne0 c = lent_refuses _ _ _ c.bad_replica-lent.ensures c.if-lent-ne0.true c.refused.ensures
+returns-in-Err c = lent_refuses _ _ c.check_replica.ensures c.in-Err.is c.unfit.ensures
 
 pub returns-then-hash-ne-HASH : goal.returns-then-hash-ne-HASH
-returns-then-hash-ne-HASH c = path_bad_hash _ _ _ _ _ (none_first _ _ c.bad_replica-lent.ensures c.if-lent-ne0.false) _ c.if-hash-ne-HASH.true c.refused-then-hash-ne-HASH.ensures
+returns-then-hash-ne-HASH c = path_bad_hash _ _ _ _ _ (none_first _ c.check_replica.ensures c.in_default.is) _ c.if-hash-ne-HASH.true c.unfit-then-hash-ne-HASH.ensures
 
 pub path-requires : goal.path-requires
-path-requires c = lent_stands _ (none_first _ _ c.bad_replica-lent.ensures c.if-lent-ne0.false) c.requires
+path-requires c = lent_stands _ (none_first _ c.check_replica.ensures c.in_default.is) c.requires
 
 pub returns : goal.returns
 returns c =
-    path_answers _ _ _ _ _ (none_first _ _ c.bad_replica-lent.ensures c.if-lent-ne0.false) _ _ _ _
+    path_answers _ _ _ _ _ (none_first _ c.check_replica.ensures c.in_default.is) _ _ _ _
     c.if-hash-ne-HASH.false c.get_hash.ensures c.path.ensures c.answered.ensures

@@ -2,8 +2,8 @@
 use Rattle.refile.proofs.ReadCallLaws.{short_none, short_next}
 use Rattle.refile.proofs.read.short_changes.Goals as goal
 
-pub returns-in-Nobody : goal.returns-in-Nobody
-returns-in-Nobody c = short_none _ _ _ c.next_after.ensures c.in-Nobody.is
+pub returns-in-None : goal.returns-in-None
+returns-in-None c = short_none _ _ _ c.next_after.ensures c.in-None.is
 
-pub returns-in-At : goal.returns-in-At
-returns-in-At c = short_next _ _ _ c.next_after.ensures _ _ _ c.in-At.is c.refused.ensures
+pub returns-in-Some : goal.returns-in-Some
+returns-in-Some c = short_next _ _ _ c.next_after.ensures _ _ _ c.in-Some.is c.refused.ensures

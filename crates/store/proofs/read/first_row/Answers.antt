@@ -6,7 +6,7 @@ use native.Mathlib.Omega.{arith}
 use Rattle.store.proofs.read.first_row.Goals as goal
 
 pub loop-i-init : goal.loop-i-init
-loop-i-init c = (omega arith, first_none _ _ _ refl refl)
+loop-i-init c = first_none _ _ _ refl refl
 
 pub row_count-sum-requires : goal.row_count-sum-requires
 row_count-sum-requires c = record { laid = c.requires.laid; within = omega (arith, c.requires.within) }
@@ -20,9 +20,9 @@ overflow_add-sum c =
     omega arith
 
 pub loop-i-preserved : goal.loop-i-preserved
-loop-i-preserved c = (omega arith, first_more _ c.loop-i.i _ _ (omega (arith, c.requires.within)) c.loop-i.invariant.1 c.row_count-sum.ensures)
+loop-i-preserved c = first_more _ c.loop-i.i _ _ (omega (arith, c.requires.within)) c.loop-i.invariant c.row_count-sum.ensures
 
 pub returns : goal.returns
 returns c =
     let e : c.loop-i.i ≡ c.args.d = omega arith in
-    c.loop-i.invariant.1 ∙ ap (first_row _) e
+    c.loop-i.invariant ∙ ap (first_row _) e

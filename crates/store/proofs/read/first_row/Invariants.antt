@@ -1,11 +1,7 @@
 -- `read::first_row` meets its contract. The sum is that of the documents passed. Assumes nothing.
 use mathlib.Core.Path.{◌≡◌}
-use Prim.Native.Nat.{◌≤◌, ◌-◌}
 use Rattle.store.specs.Documents.{documents_of, first_row}
 use Rattle.store.proofs.read.first_row.Given as goal
 
 abbrev pub invariant-loop-i : goal.invariant-loop-i
-invariant-loop-i l = (l.i ≤ l.d) × (l.sum ≡ first_row (documents_of l.b) l.i)
-
-abbrev pub decreases-loop-i : goal.decreases-loop-i
-decreases-loop-i l = l.d - l.i
+invariant-loop-i l = l.sum ≡ first_row (documents_of l.b) l.i

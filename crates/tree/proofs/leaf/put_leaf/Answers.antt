@@ -12,8 +12,8 @@ pub returns : goal.returns
 returns c =
     let a = c.args in
     let h = c.put_hash.ensures.size in
-    let written = leaf_written a.out.now a.at a.rev a.content h (omega (arith, c.requires)) in
+    let written = leaf_written a.out.now a.at a.leaf h (omega (arith, c.requires)) in
     record {
       is = c.put8.ensures.is ∙ rw (c.content_label.ensures, c.content_kind.ensures, c.put_hash.ensures.is, c.put4.ensures.is) written;
-      size = length_leaf a.rev a.content h;
+      size = length_leaf a.leaf h;
     }

@@ -4,4 +4,4 @@ use Rattle.tree.proofs.row.get_row.Goals as goal
 
 pub returns : goal.returns
 unfolding rev_at node_at node_held meaning row_at row_from
-returns c = cc (c.get_rev-rev.ensures, c.known-known.ensures.is, c.parent-parent.ensures.is, c.get_kind-kind.ensures)
+returns c = cc (c.get_rev-rev.ensures, c.get_parent-parent.ensures, c.get_kind-content.ensures)

@@ -1,5 +1,4 @@
 -- `apply::apply` meets its contract: before each turn those from the k-th on are added. Assumes nothing.
-use Prim.Native.Nat.{◌≤◌}
 use lib.ListN.{take}
 use Rattle.store.specs.Storage.{replica_of}
 use Rattle.writes.specs.Path.{gives_of}
@@ -7,7 +6,4 @@ use Rattle.writes.proofs.LearnLaws.{Learning}
 use Rattle.writes.proofs.apply.apply.Given as goal
 
 abbrev pub invariant-loop-k : goal.invariant-loop-k
-invariant-loop-k l = (l.k ≤ l.m) × Learning (replica_of l.initial.b) l.d (take l.m (gives_of l.number l.path l.content)) l.k l.place l.b
-
-abbrev pub decreases-loop-k : goal.decreases-loop-k
-decreases-loop-k l = l.k
+invariant-loop-k l = Learning (replica_of l.initial.b) l.d (take l.m (gives_of l.number l.path l.content)) l.k l.place l.b

@@ -1,5 +1,5 @@
 -- `plan::with_held` meets its contract. Assumes nothing.
-use Rattle.writes.proofs.PassLaws.{with_held}
+use Rattle.writes.proofs.PassLaws.{from_bool_is, with_held}
 use mathlib.Core.Bool.{Bool, ◌||◌}
 use mathlib.Core.Path.{ap, ◌∙◌}
 use Rattle.writes.proofs.plan.with_held.Goals as goal
@@ -9,6 +9,6 @@ returns c =
     λ t e.
     let a = c.args in
     let l = c.lacks_parent-lacks in
-    let x = c.either.ensures ∙ ap (λ (v : Bool). a.p.crossed || v) c.other_parent.ensures in
-    let y = c.either-2.ensures ∙ ap (λ (v : Bool). a.p.other || v) c.other_content.ensures in
-    with_held t a.k a.p a.held a.given _ _ l.result _ _ e l.ensures x y c.one_if.ensures.0 c.reach.ensures
+    let x = ap (λ (v : Bool). a.p.crossed || v) c.other_parent.ensures in
+    let y = ap (λ (v : Bool). a.p.other || v) c.other_content.ensures in
+    with_held t a.k a.p a.held a.given _ _ l.result _ _ e l.ensures x y (c.from.ensures ∙ from_bool_is _) c.reach.ensures

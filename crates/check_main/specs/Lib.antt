@@ -1,2 +1,0 @@
--- What the promises of this program's functions cite.
-pub mod Input
