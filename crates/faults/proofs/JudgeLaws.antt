@@ -52,6 +52,18 @@ module _ (s : List ℕ) where
   pub headed : bad_head s ≡ false → Headed s
   headed e = let r = head_rules e in record { documents = r.documents; revisions = r.revisions; size = sym r.given ∙ r.total }
 
+  -- past the other rules, whether the total is the given length is what is left to ask
+  pub head_given : (b : Bool) → (head_of s).zero ≡ 0 → (head_of s).documents ≤ documents_most → (head_of s).revisions ≤ revisions_most
+      → (head_of s).total ≡ total_length (head_of s).documents (head_of s).revisions
+      → (b ≡ false → (head_of s).total ≡ length s) → (b ≡ true → (head_of s).total ≡ length s → ⊥) → b ≡ bad_head s
+  unfolding bad_head
+  head_given true z d r t f g =
+      let h = head_of s in
+      rw (eq-eqb h.zero 0 z, le-ltb documents_most h.documents d, le-ltb revisions_most h.revisions r, eq-eqb h.total (total_length h.documents h.revisions) t, ne_eqb h.total (length s) (g refl))
+  head_given false z d r t f g =
+      let h = head_of s in
+      rw (eq-eqb h.zero 0 z, le-ltb documents_most h.documents d, le-ltb revisions_most h.revisions r, eq-eqb h.total (total_length h.documents h.revisions) t, eq-eqb h.total (length s) (f refl))
+
 -- ---- 23
 
 -- ---- the whole image

@@ -295,7 +295,10 @@ fn skip_frac(s: &[u8], at: usize) -> Option<usize>
     if peek(s, at) != b'.' {
         return skip_exp(s, at);
     }
-    let e = skip_some_digits(s, at + 1)?;
+    // No `?`: an edit tries the answer of a number that ends in its point here, and a `?` would refuse it for its form alone.
+    let Some(e) = skip_some_digits(s, at + 1) else {
+        return None;
+    };
     skip_exp(s, e)
 }
 

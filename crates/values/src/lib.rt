@@ -90,7 +90,10 @@ fn skip_list(s: &[u8], at: usize, kind: Kind, depth: usize) -> Option<usize>
         match next {
             Next::End(e) => return Some(e),
             Next::Item(i) => {
-                let e = skip_item(s, i, kind, depth)?;
+                // No `?`: an edit tries the answer of a list that ends in its comma here, and a `?` would refuse it for its form alone.
+                let Some(e) = skip_item(s, i, kind, depth) else {
+                    return None;
+                };
                 next = after_item(s, e, kind.close())?;
             }
         }

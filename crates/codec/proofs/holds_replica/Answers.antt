@@ -1,13 +1,13 @@
 -- `holds_replica` meets its contract. Assumes nothing.
-use mathlib.Core.Path.{refl, sym, ◌∙◌, ◌≡◌}
+use mathlib.Core.Path.{refl, sym, subst, ◌∙◌, ◌≡◌}
 use Prim.Native.Nat.{◌+◌, ◌-◌, ◌*◌}
 use native.Mathlib.Omega.{arith}
 use lib.ListN.{length-take, length-drop}
 use borrow.Author.Rules.{rules}
 use Rattle.rules.specs.Layout.{row_size}
 use Rattle.rules.specs.Bytes.{part}
-use Rattle.store.specs.Storage.{rows_place}
-use Rattle.codec.specs.Codec.{laid_out}
+use Rattle.store.specs.Storage.{rows_place, IsStored}
+use Rattle.codec.specs.Codec.{laid_out, Tells}
 use Rattle.codec.proofs.TakeLaws.{bytes_all}
 use Rattle.codec.proofs.TellLaws.{anew, tells_other, tells_said}
 use Rattle.codec.proofs.holds_replica.Goals as goal
@@ -31,4 +31,4 @@ returns c =
     anew _ _ _ (rows_place + row_size * a.r - rows_place) _ c.lay_out.ensures (omega arith) in
     let h = bytes_all a.b.now (λ i. omega (arith, c.shared_slice_known-1.given i)) in
     let said = tells_said _ _ _ c.requires _ laid _ _ refl c.write_image.ensures _ c.fault.ensures h (sym c.same_bytes.ensures ∙ c.if-not-same_bytes.false) in
-    rw c.is_ok.ensures.value said
+    subst (λ z. Tells (IsStored a.b.now) z) (sym c.is_ok.ensures.value) said

@@ -10,14 +10,14 @@ returns-then-peek-ne46 c =
     let x = c.skip_exp in
     skips_runs _ _ a.s.now a.at a.at (frac_none a.s.now a.at (λ e. c.if-peek-ne46.true (c.peek.ensures ∙ e))) x.result x.ensures
 
-pub returns-in_err-e : goal.returns-in_err-e
-returns-in_err-e c =
+pub returns-in_default : goal.returns-in_default
+returns-in_default c =
     let a = c.args in
-    rw c.from_residual.ensures (frac_wrong a.s.now a.at (sym c.peek.ensures ∙ c.if-peek-ne46.false) c.in_err-e.ensures)
+    frac_wrong a.s.now a.at (sym c.peek.ensures ∙ c.if-peek-ne46.false) (rw c.in_default.is at c.skip_some_digits.ensures)
 
 pub returns : goal.returns
 returns c =
     let a = c.args in
-    let d = c.in_ok-e in
+    let e = c.in-Some.e in
     let x = c.skip_exp-2 in
-    skips_runs _ _ a.s.now a.at d.e (frac_some a.s.now a.at d.e (sym c.peek.ensures ∙ c.if-peek-ne46.false) d.ensures) x.result x.ensures
+    skips_runs _ _ a.s.now a.at e (frac_some a.s.now a.at e (sym c.peek.ensures ∙ c.if-peek-ne46.false) (rw c.in-Some.is at c.skip_some_digits.ensures)) x.result x.ensures

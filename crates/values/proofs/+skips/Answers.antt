@@ -23,27 +23,29 @@ skip_list-loop-next-init t c =
     let a = c.args in
     walk_opens a.kind a.depth a.s.now a.at c.requires c.open_at-next.result (rw c.close.ensures at c.open_at-next.ensures)
 
-pub skip_list-returns-in_err-e-in-Item : goal.skip_list-returns-in_err-e-in-Item
-skip_list-returns-in_err-e-in-Item t c =
+pub skip_list-returns-in_default : goal.skip_list-returns-in_default
+skip_list-returns-in_default t c =
     let a = c.args in
     let g = rw c.in-Item.is at c.loop-next.invariant in
-    rw c.from_residual.ensures (walk_no_item a.kind a.depth a.s.now a.at c.in-Item.i g c.in_err-e-in-Item.ensures)
+    walk_no_item a.kind a.depth a.s.now a.at c.in-Item.i g (rw c.in_default.is at c.skip_item.ensures)
 
 pub skip_list-returns-in_err-next-in-Item : goal.skip_list-returns-in_err-next-in-Item
 skip_list-returns-in_err-next-in-Item t c =
     let a = c.args in
     let g = rw c.in-Item.is at c.loop-next.invariant in
-    let e = c.in_ok-e-in-Item in
-    rw c.from_residual-in_err-next-in-Item.ensures (walk_wrong a.kind a.depth a.s.now a.at c.in-Item.i g e.e e.ensures (rw c.close-in-Item.ensures at c.in_err-next-in-Item.ensures))
+    let e = c.in-Some.e in
+    let item = rw c.in-Some.is at c.skip_item.ensures in
+    rw c.from_residual.ensures (walk_wrong a.kind a.depth a.s.now a.at c.in-Item.i g e item (rw c.close-in-Item.ensures at c.in_err-next-in-Item.ensures))
 
 pub skip_list-loop-next-preserved : goal.skip_list-loop-next-preserved
 skip_list-loop-next-preserved t c =
     let a = c.args in
     let g = rw c.in-Item.is at c.loop-next.invariant in
-    let e = c.in_ok-e-in-Item in
+    let e = c.in-Some.e in
+    let item = rw c.in-Some.is at c.skip_item.ensures in
     let n = c.in_ok-next-in-Item in
-    walk_follows a.kind a.depth a.s.now a.at c.in-Item.i g e.e e.ensures n.next
-    (subst (λ z. Follows a.s.now e.e z (Some n.next)) c.close-in-Item.ensures n.ensures)
+    walk_follows a.kind a.depth a.s.now a.at c.in-Item.i g e item n.next
+    (subst (λ z. Follows a.s.now e z (Some n.next)) c.close-in-Item.ensures n.ensures)
 
 -- ---- `skip_member`
 
@@ -87,9 +89,8 @@ skip_value-returns-in_err-checked_sub-in-123 t c =
 pub skip_value-returns-in_ok-checked_sub-in-91 : goal.skip_value-returns-in_ok-checked_sub-in-91
 skip_value-returns-in_ok-checked_sub-in-91 t c =
     let a = c.args in
-    let e = c.in_ok-checked_sub-in-91 in
     let x = c.skip_array in
-    value_list kind.Array a.depth e.field-0 a.s.now a.at (omega arith) (sym c.peek.ensures ∙ c.in-91.is) x.result x.ensures
+    value_list kind.Array a.depth _ a.s.now a.at (omega arith) (sym c.peek.ensures ∙ c.in-91.is) x.result x.ensures
 
 pub skip_value-returns-in_ok-checked_sub-in-123 : goal.skip_value-returns-in_ok-checked_sub-in-123
 skip_value-returns-in_ok-checked_sub-in-123 t c =

@@ -2,6 +2,7 @@
 use mathlib.Core.Path.{refl, ap, ◌∙◌}
 use Prim.Native.Nat.{◌+◌}
 use native.Mathlib.Omega.{arith}
+use Rattle.std.proofs.lemmas.List.{take_all}
 use Rattle.rules.specs.Bytes.{pieces}
 use Rattle.rules.specs.Report.{text}
 use Rattle.rules.specs.Room.{hash_size}
@@ -13,7 +14,7 @@ use Rattle.puts.proofs.line.put_next.Goals as goal
 
 pub loop-hash-init : goal.loop-hash-init
 loop-hash-init c =
-    rw c.into_iter-hash-iterator.ensures.into_iter_gives (0, walk_begins hash_size c.args.hashes.now refl c.chunks_exact-hash-items.ensures.size c.chunks_exact-hash-items.ensures.rest, omega arith, next_none _ _ _)
+    rw c.into_iter-hash-iterator.ensures.into_iter_gives (0, walk_begins hash_size c.args.hashes.now refl c.chunks_exact-hash-items.ensures.size (c.chunks_exact-hash-items.ensures.rest ∙ search (take_all, arith)), omega arith, next_none _ _ _)
 
 pub put_word-h-requires : goal.put_word-h-requires
 put_word-h-requires c =
