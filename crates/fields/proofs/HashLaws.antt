@@ -11,9 +11,10 @@ use lib.ListN.{length, get_or, set, take, drop, length-take}
 use lib.Seq.{drop-cons, take-suc, take-suc-set, take_all}
 use borrow.Author.Tests.{eq-eqb, ne_eqb, le-leb, lt-leb}
 use Rattle.rules.specs.Room.{hash_size}
+use Rattle.octets.specs.Splice.{splice}
 use Rattle.lines.specs.Said.{all, is_digit, is_hex_digit, hex_digit_value, hex_value, read_hash}
 use Rattle.lines.proofs.SaidLaws.{and_left, and_right, hex_digit_range, hex_value_small}
-use Rattle.fields.specs.Fields.{pairs, Small, HexValues}
+use Rattle.fields.specs.Fields.{pairs, Small, HexValues, HashTaken}
 
 -- ---- one digit
 
@@ -130,3 +131,11 @@ no_hash_digits t n e = rw (eq-eqb (length t) (hash_size + hash_size) n, e) refl
 pub a_hash : (t vs h : List ℕ) → length t ≡ hash_size + hash_size → all is_hex_digit t ≡ true → HexValues t vs → h ≡ pairs vs → Some h ≡ read_hash t
 unfolding read_hash
 a_hash t vs h n e p q = rw (eq-eqb (length t) (hash_size + hash_size) n, e) (ap Some (q ∙ (ap pairs p.is ∙ pairs_values t)))
+
+-- ---- a hash laid down
+
+pub none_taken : {t s : List ℕ} {at : ℕ} → read_hash t ≡ None → HashTaken t s at false s
+none_taken e = record { is = rw e refl; left = rw e refl }
+
+pub some_taken : {t h s s' : List ℕ} {at : ℕ} → read_hash t ≡ Some h → s' ≡ splice s at h → HashTaken t s at true s'
+some_taken e p = record { is = rw e refl; left = rw e p }

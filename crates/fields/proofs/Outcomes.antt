@@ -4,6 +4,8 @@ use Rattle.rules.specs.Outcome.{OneOutcome, nothing}
 use Rattle.rules.proofs.OutcomeLaws.{fixed}
 use Rattle.fields.proofs.read_number.Kinds as read_number
 use Rattle.fields.proofs.read_number.Reads as read-number'
+use Rattle.fields.proofs.put_hash.Kinds as put-hash
+use Rattle.fields.proofs.put_hash.Reads as put-hash'
 use Rattle.fields.proofs.read_hash.Kinds as read-hash
 use Rattle.fields.proofs.read_hash.Reads as read-hash'
 use Rattle.fields.proofs.read_rev.Kinds as read-rev
@@ -17,6 +19,9 @@ use Rattle.fields.proofs.which_name.Reads as which-name'
 
 pub read_number_outcome : OneOutcome _ read_number.ps read_number.r read-number'.Asked read-number'.Learnt nothing
 read_number_outcome κs a x y s t h p q = (fixed p q, refl)
+
+pub put_hash_outcome : OneOutcome _ put-hash.ps put-hash.r put-hash'.Asked put-hash'.Learnt (λ κs s. s.1.0.now)
+put_hash_outcome κs a x y s t h p q = (fixed p.is q.is, fixed p.left q.left)
 
 pub read_hash_outcome : OneOutcome _ read-hash.ps read-hash.r read-hash'.Asked read-hash'.Learnt nothing
 read_hash_outcome κs a x y s t h p q = (fixed p q, refl)

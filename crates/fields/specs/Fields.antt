@@ -1,12 +1,14 @@
 -- What the answers of this crate say, and which of our names a text is.
-use Rattle.std.specs.Prelude.{Bool, true, false, List, [], ◌∷◌, ◌≡◌, ℕ, ◌+◌, ◌*◌, ◌<◌, eqb, length, get_or, map}
+use Rattle.std.specs.Prelude.{Bool, true, false, not, List, [], ◌∷◌, ◌≡◌, ℕ, ◌+◌, ◌*◌, ◌<◌, eqb, length, get_or, map}
 use Rattle.std.specs.Prelude.{Option, None, Some}
 use Prim.Native.String.{String}
-use Rattle.rules.specs.Choice.{first_that}
+use Rattle.rules.specs.Choice.{first_that, maybe}
 use Rattle.rules.specs.Order.{order_bytes, is_equal}
 use Rattle.rules.specs.Report.{text}
 use Rattle.rules.specs.Room.{hash_size}
-use Rattle.lines.specs.Said.{all, is_name, is_hex_digit, hex_digit_value}
+use Rattle.rules.specs.Write.{is_none}
+use Rattle.octets.specs.Splice.{splice}
+use Rattle.lines.specs.Said.{all, is_name, is_hex_digit, hex_digit_value, read_hash}
 use Rattle.fields.specs.declared.Name.{Name}
 use Rattle.fields.specs.declared.Name.TheVariants.{Id, Rev, Revisions, Deleted, Label, Start, Ids}
 
@@ -31,6 +33,11 @@ Small values = (i : ℕ) → get_or values i 0 < 16
 pub record HexValues (t values : List ℕ) : Type 0 where
   pub is : values ≡ map hex_digit_value t
   pub small : Small values
+
+-- whether t is a hash; where it is, its bytes now stand at `at`, and else no byte is another
+pub record HashTaken (t before : List ℕ) (at : ℕ) (r : Bool) (after : List ℕ) : Type 0 where
+  pub is : r ≡ not (is_none (read_hash t))
+  pub left : after ≡ maybe before (splice before at) (read_hash t)
 
 -- ---- names and words
 

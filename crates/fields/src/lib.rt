@@ -3,10 +3,11 @@
 // and lines.
 #![tactic(auto)]
 
-ghost use Rattle.std.specs.Prelude.{◌≡◌, true, ◌<◌};
+ghost use Rattle.std.specs.Prelude.{◌≡◌, true, ◌+◌, ◌<◌, ◌≤◌, length};
+ghost use Rattle.rules.specs.Room.{hash_size};
 ghost use Rattle.lines.specs.Said.{all, spare_zero, read_number, is_hex_digit, hex_digit_value, read_hash, read_rev};
 ghost use Rattle.lines.specs.Take.{is_writable, unwritable};
-ghost use Rattle.fields.specs.Fields.{pairs, Small, HexDigits, HexValues, is_true, name_at};
+ghost use Rattle.fields.specs.Fields.{pairs, Small, HexDigits, HexValues, HashTaken, is_true, name_at};
 
 use octets::order::same_bytes;
 use rules::{HASH, NUMBER_MOST, RevNumber, Revision};
@@ -73,7 +74,9 @@ fn hex_value(c: u8) -> u8
     if c <= b'9' { c - b'0' } else { c - LETTERS }
 }
 
-// The values of 32 hex digits, by themselves, so that this loop too goes by many bytes at once.
+// The values of 32 hex digits, by themselves, so that this loop too goes by many bytes at once. It and the next are
+// kept out of line: put in line, the arrays are taken apart and both loops go byte by byte.
+#[inline(never)]
 fn digit_values(t: &[u8]) -> [u8; HASH_DIGITS]
     requires { HexDigits t.now }
     ensures { HexValues t.now result }
@@ -86,6 +89,7 @@ fn digit_values(t: &[u8]) -> [u8; HASH_DIGITS]
 }
 
 // A byte for each two values.
+#[inline(never)]
 fn pairs(values: &[u8; HASH_DIGITS]) -> [u8; HASH]
     requires { Small values.now }
     ensures { result ≡ pairs values.now }
@@ -104,6 +108,18 @@ pub fn read_hash(t: &[u8]) -> Option<[u8; HASH]>
         return None;
     }
     Some(pairs(&digit_values(t)))
+}
+
+// Lays a hash down at `at`, and answers whether the text is one. Where it is none, no byte changes.
+pub fn put_hash(t: &[u8], path: &mut [u8], at: usize) -> bool
+    requires { at + hash_size ≤ length path.old }
+    ensures { HashTaken t.now path.old at result path.new }
+{
+    let Some(hash) = read_hash(t) else {
+        return false;
+    };
+    octets::run::put_hash(path, at, hash);
+    true
 }
 
 // ---- revisions

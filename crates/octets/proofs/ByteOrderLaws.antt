@@ -1,5 +1,5 @@
 -- How a loop over bytes meets the order and the test for zeros. Assumes nothing.
-use Rattle.std.proofs.Common.{◌≡◌, refl, sym, ap, ◌∙◌, Less, Equal, Greater, Ordering, false, List, [], ◌∷◌, ◌++◌, ℕ, suc, ◌+◌, ◌*◌, ◌≤◌, ◌<◌, arith, length, drop, drop-drop, take-add, nat_cmp, nat_eq, ◌&&◌, is_eq, eqb}
+use Rattle.std.proofs.Common.{◌≡◌, refl, sym, ap, ◌∙◌, Less, Equal, Greater, Ordering, false, List, [], ◌∷◌, ◌++◌, ℕ, suc, ◌+◌, ◌*◌, ◌≤◌, ◌<◌, arith, length, get_or, drop, drop-drop, take-add, nat_cmp, nat_eq, ◌&&◌, is_eq, eqb}
 use Rattle.std.proofs.lemmas.Cmp.{by_ranked, ranked}
 use Rattle.std.specs.Cmp.Lexicographic.{slice_cmp, pointwise, texts_ties}
 use Rattle.std.specs.List.{list_all}
@@ -38,6 +38,19 @@ order_bytes_cmp [] [] = refl
 order_bytes_cmp [] (y ∷ b) = refl
 order_bytes_cmp (x ∷ a) [] = refl
 order_bytes_cmp (x ∷ a) (y ∷ b) = rw (order_n_cmp x y, order_bytes_cmp a b) (ordering_then_lem (order_n x y) (order_bytes a b))
+
+-- where the first bytes differ they decide, and nothing stands before everything
+pub order_bytes_first : (a b : List ℕ) → (get_or a 0 0 ≡ get_or b 0 0 → ⊥) → nat_cmp (get_or a 0 0) (get_or b 0 0) ≡ order_bytes a b
+unfolding order_bytes
+order_bytes_first [] [] n = absurd (n refl)
+order_bytes_first [] (y ∷ b) n = order_n_cmp 0 y ∙ less_order_n 0 y (omega (arith, n))
+order_bytes_first (x ∷ a) [] n = order_n_cmp x 0 ∙ greater_order_n x 0 (omega (arith, n))
+order_bytes_first (x ∷ a) (y ∷ b) n = order_n_cmp x y ∙ go (order_n x y) refl
+  where
+    go : (o : Ordering) → order_n x y ≡ o → o ≡ and_then o (order_bytes a b)
+    go Less e = refl
+    go Equal e = absurd (n (order_n_same x y e))
+    go Greater e = refl
 
 pub order_bytes_eq : (a b : List ℕ) → pointwise nat_eq a b ≡ is_equal (order_bytes a b)
 order_bytes_eq a b = texts_ties a b ∙ (rw (order_bytes_cmp a b) (is_eq_lem (order_bytes a b)))

@@ -1,7 +1,8 @@
 -- Laws of splice. Assumes nothing.
-use Rattle.std.proofs.Common.{◌≡◌, refl, sym, ◌∙◌, List, [], ◌∷◌, ◌++◌, append_assoc, append-nil, ℕ, ◌+◌, ◌≤◌, ◌<◌, add_assoc, zero-add, add-zero, arith, length, set, take, drop, replicate, length-append, length-take, length-drop, take-append-drop, take_at, drop_at, drop-drop}
-use lib.ListN.{length-replicate}
-use lib.Seq.{sets, sets-eq, paste, drop-length, drop-append-le, take-append-le, take-append-add, drop-append-add}
+use Rattle.std.proofs.Common.{◌≡◌, refl, sym, ◌∙◌, List, [], ◌∷◌, ◌++◌, append_assoc, append-nil, ℕ, suc, ◌+◌, ◌-◌, ◌≤◌, ◌<◌, add_assoc, zero-add, add-zero, add-one, arith, length, get_or, set, take, drop, replicate, length-append, length-take, length-drop, take-append-drop, take_at, drop_at, drop-drop, drop-cons, take-suc, get_or-take}
+use lib.ListN.{length-replicate, get_or-append}
+use native.Mathlib.Nat.{sub-zero}
+use lib.Seq.{set_at, sets, sets-eq, drop-length, drop-append-le, take-append-le, take-append-add, drop-append-add}
 use Rattle.std.proofs.lemmas.List.Edits.{paste_all}
 use Rattle.std.proofs.lemmas.Slice.{put_mid-paste}
 use borrow.Rule.Slice.PartMut.{put_mid}
@@ -108,12 +109,46 @@ put_run s at k new vs e n = put_mid-paste at k s new vs k e refl n ∙ rw n (pas
 pub cleared : (s : List ℕ) (at k n m : ℕ) (new : List ℕ) → new ≡ replicate m 0 → m ≡ n → k ≡ n → put_mid at k s new ≡ splice s at (replicate n 0)
 cleared s at k n m new e p q = put_run s at k new (replicate n 0) (rw p at e) (q ∙ sym (length-replicate n 0))
 
--- a run that code has copied within a list
-pub moved_up : (s : List ℕ) (at to len n : ℕ) → n ≡ len → at + len ≤ length s → paste s to (drop at s) n ≡ splice s to (part at len s)
-unfolding splice part
-moved_up s at to len n e h =
-    let l : length (take len (drop at s)) ≡ len = simp (length-take, length-drop) (omega arith) in
-    rw (e, l) (append_assoc (take to s) (take len (drop at s)) (drop (to + len) s))
+-- one more in front of a run
+pub splice_front : (s : List ℕ) (p q v : ℕ) (vs : List ℕ) → q ≡ p + 1 → q ≤ length s → set (splice s q vs) p v ≡ splice s p (v ∷ vs)
+unfolding splice
+splice_front s p q v vs e h =
+    let b : p < length s = omega arith in
+    let n : length (take p s) ≡ p = simp length-take (omega arith) in
+    let m : p + suc (length vs) ≡ suc p + length vs = omega arith in
+    rw (e, add-one p, take-suc s p 0 b, append_assoc (take p s) (get_or s p 0 ∷ []) (vs ++ drop (suc p + length vs) s), set_at (take p s) (get_or s p 0) (vs ++ drop (suc p + length vs) s) v p n, m)
+
+-- ---- moving a run up, from its end down
+
+-- s, with the elements from `at + k` up to `at + len` moved up by `by`
+unfoldable pub moved : List ℕ → ℕ → ℕ → ℕ → ℕ → List ℕ
+moved s at len by k = splice s (at + by + k) (part (at + k) (len - k) s)
+
+pub moved_start : (s : List ℕ) (at len by : ℕ) → s ≡ moved s at len by len
+unfolding moved part
+moved_start s at len by =
+    let z : len - len ≡ 0 = omega arith in
+    rw z (sym (splice_none s (at + by + len)))
+
+pub moved_end : (s : List ℕ) (at len by k : ℕ) → k ≡ 0 → moved s at len by k ≡ splice s (at + by) (part at len s)
+unfolding moved
+moved_end s at len by k e = rw (e, add-zero (at + by), add-zero at, sub-zero len)
+
+pub get_d_splice_before : (s : List ℕ) (at : ℕ) (vs : List ℕ) (i : ℕ) → i < at → at ≤ length s → get_or (splice s at vs) i 0 ≡ get_or s i 0
+unfolding splice
+get_d_splice_before s at vs i h k =
+    rw (get_or-append (take at s) (vs ++ drop (at + length vs) s) 0 i (simp length-take (omega arith)), get_or-take at s i 0 h)
+
+pub moved_step : (s : List ℕ) (at len by k j : ℕ) → k ≡ j + 1 → k ≤ len → at + len + by ≤ length s
+    → set (moved s at len by k) (at + by + j) (get_or (moved s at len by k) (at + j) 0) ≡ moved s at len by j
+unfolding moved part
+moved_step s at len by k j e h r =
+    let vs : List ℕ = take (len - k) (drop (at + k) s) in
+    let g : get_or (splice s (at + by + k) vs) (at + j) 0 ≡ get_or s (at + j) 0 = get_d_splice_before s (at + by + k) vs (at + j) (omega arith) (omega arith) in
+    let f : set (splice s (at + by + k) vs) (at + by + j) (get_or s (at + j) 0) ≡ splice s (at + by + j) (get_or s (at + j) 0 ∷ vs) = splice_front s (at + by + j) (at + by + k) (get_or s (at + j) 0) vs (omega arith) (omega arith) in
+    let d : len - j ≡ suc (len - k) = omega arith in
+    let m : at + k ≡ suc (at + j) = omega arith in
+    rw (g, f, d, drop-cons s (at + j) 0 (omega arith), m)
 
 -- a run moves up and another takes its place
 pub gap : (A C z Z x : List ℕ) (p len w : ℕ) → length A ≡ p → length C ≡ len → length x ≡ w → length z ≡ w

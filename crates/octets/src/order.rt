@@ -8,8 +8,20 @@ use crate::run::bytes_at;
 use rules::HASH;
 use std::cmp::Ordering;
 
-// Byte by byte, a prefix first.
+// Byte by byte, a prefix first. Most ids that are compared differ in their first byte, which is looked at without a
+// call.
 pub fn order_bytes(a: &[u8], b: &[u8]) -> Ordering
+    ensures { result ≡ order_bytes a.now b.now }
+{
+    match (a, b) {
+        ([x, ..], [y, ..]) if *x != *y => x.cmp(y),
+        _ => order_whole(a, b),
+    }
+}
+
+// The same by the library. Kept out of line, since `order_bytes` would be too large to go in line with it.
+#[inline(never)]
+fn order_whole(a: &[u8], b: &[u8]) -> Ordering
     ensures { result ≡ order_bytes a.now b.now }
 {
     a.cmp(&b)
